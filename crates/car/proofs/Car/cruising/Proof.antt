@@ -1,0 +1,15 @@
+use Rattle.car.specs.Acceleration.{cruising}
+use Rattle.car.specs.AccelerationLaws.{target-le}
+use borrow.Author.Needs.{needs}
+use Rattle.car.proofs.Car.cruising.Statement.{statement}
+use Rattle.car.proofs.Car.cruising.Tie as tie
+
+pub cruising-spec : {M : Type 1} → statement M
+unfolding cruising
+cruising-spec =
+    tie.close
+    (tie.spec
+    (λ c κs. search needs)
+    (λ c κs. (search needs, rw (c .target .ensures) (target-le _ (c .before .pre))))
+    (λ c κs. search needs)
+    (λ c. cc))

@@ -1,0 +1,14 @@
+use Rattle.car.specs.Lever.{held}
+use Rattle.kit.specs.Pick.{picks}
+use borrow.Author.Needs.{needs}
+use Rattle.car.proofs.lever.held.Statement.{statement}
+use Rattle.car.proofs.lever.held.Tie as tie
+
+pub held-spec : {M : Type 1} → statement M
+unfolding held
+held-spec =
+    tie.close
+    (tie.spec
+    (λ c. search picks)
+    (λ c κs. search needs)
+    (λ c. search picks))

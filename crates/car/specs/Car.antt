@@ -1,0 +1,41 @@
+-- Document 01, "The car and a fresh one".
+-- Assumes nothing.
+use mathlib.Core.Bool.{Bool, true, false, _&&_, _||_, not}
+use Prim.Native.Nat.{ℕ}
+use lib.Dec.{eqb, leb, ltb}
+use Rattle.kit.specs.Pick.{pick}
+use Rattle.car.specs.declared.Settings.{Settings}
+use Rattle.car.specs.declared.Car.{Car}
+use Rattle.car.specs.declared.Fresh.{Fresh}
+use Rattle.car.specs.declared.Fresh.the-variants.{Made, Refused}
+
+-- "A fresh car is made from its settings: G = 20, R = 255, the rest 0"
+unfoldable pub freshCar : Settings → Car
+freshCar s =
+    record {
+      settings = s;
+      key = 0;
+      levers = record { updown = 0; foreback = 0; time = 0; base = 0 };
+      pedals = record { brake = 0; gas = 0 };
+      limiter = record { button = false; on = false; limit = 0 };
+      cruise = record { on = false; desired = 0; manual = 0 };
+      radar = record { ready = false; range = 255; lead = 0; earlier = 0; tested = 0 };
+      gap = 20;
+      speed = 0;
+      now = 0;
+    }
+
+-- "Settings: mode 1 (normal cruise) or 2 (adaptive); signs 0 or 1"
+unfoldable pub settingsOf : ℕ → ℕ → Settings
+settingsOf mode signs = record { mode = mode; signs = eqb signs 1 }
+
+-- 17: settings outside their values (no car)
+unfoldable pub check17 : ℕ → ℕ → Bool
+check17 mode signs = not (eqb mode 1) && not (eqb mode 2) || ltb 1 signs
+
+unfoldable pub freshOf : ℕ → ℕ → Fresh
+freshOf mode signs = pick (check17 mode signs) (Refused 17) (Made (freshCar (settingsOf mode signs)))
+
+-- the ceiling of D and B
+unfoldable pub ceilingOf : Settings → ℕ
+ceilingOf s = 2000

@@ -1,0 +1,59 @@
+-- Document 01, "Figures proved together": one table, checked by one fact.
+-- Assumes nothing.
+use mathlib.Core.Bool.{Bool, true, false}
+use mathlib.Core.Path.{_≡_, refl}
+use mathlib.Core.List.{List, [], _∷_}
+use Prim.Native.Nat.{ℕ}
+use lib.IntN.{ℤ, pos, negℤ}
+use Rattle.kit.specs.Pick.{pick}
+use Rattle.car.specs.declared.Car.{Car}
+use Rattle.car.specs.Acceleration.{signed, speeding, slowing, change}
+use Rattle.car.specs.Distance.{metres, secureDistance, ahead, within, visual}
+use Rattle.car.specs.Lever.{up5, up7, down5, down7, stepped, longHeld, held}
+
+-- a car with adaptive cruise on at v 500 and G 20, a reading R and a speed W ahead
+abbrev pub behind : ℕ → ℕ → Car
+behind range lead =
+    record {
+      settings = record { mode = 2; signs = false };
+      key = 2;
+      levers = record { updown = 0; foreback = 0; time = 0; base = 0 };
+      pedals = record { brake = 0; gas = 0 };
+      limiter = record { button = false; on = false; limit = 0 };
+      cruise = record { on = true; desired = 500; manual = 0 };
+      radar = record { ready = true; range = range; lead = lead; earlier = 0; tested = 0 };
+      gap = 20;
+      speed = 500;
+      now = 0;
+    }
+
+-- yes is 1, no is 0
+abbrev pub answer : Bool → ℤ
+answer b = pos (pick b 1 0)
+
+pub figures-together :
+    signed (change (slowing 1))  -- a×36÷10 for −1,
+    ∷ signed (change (speeding 6))  -- 6,
+    ∷ signed (change (slowing 30))  -- −30
+    ∷ pos (stepped 2000 2 570)  -- up7 from 570
+    ∷ pos (stepped 2000 4 570)  -- down7 from 570;
+    ∷ pos (stepped 2000 4 100)  -- from 100
+    ∷ pos (stepped 2000 1 1995)  -- up5 from 1995
+    ∷ pos (held 2000 1 500 1)  -- hold up5, B 500: h 1,
+    ∷ pos (held 2000 1 500 2)  -- h 2
+    ∷ pos (held 2000 4 550 4)  -- hold down7, B 550, h 4
+    ∷ pos (secureDistance (behind 19 300))  -- N at G 20, v 500, W 300
+    ∷ answer (visual (behind 19 300))  -- visual at v 500: R 19,
+    ∷ answer (visual (behind 20 300))  -- 20
+    ∷ []
+    ≡ negℤ (pos 3) ∷ pos 21 ∷ negℤ (pos 108)
+    ∷ pos 600
+    ∷ pos 400 ∷ pos 10
+    ∷ pos 2000
+    ∷ pos 500 ∷ pos 510
+    ∷ pos 300
+    ∷ pos 27
+    ∷ pos 1 ∷ pos 0
+    ∷ []
+unfolding signed change speeding slowing stepped up5 up7 down5 down7 held longHeld secureDistance metres visual within ahead pick
+figures-together = refl

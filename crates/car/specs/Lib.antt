@@ -1,0 +1,11 @@
+pub mod Car
+pub mod Lever
+pub mod Distance
+pub mod Acceleration
+pub mod Good
+pub mod Standing
+pub mod GoodLaws
+pub mod AccelerationLaws
+pub mod DistanceLaws
+pub mod Figures
+pub mod FiguresTable

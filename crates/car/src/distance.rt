@@ -1,0 +1,70 @@
+// Secure distance, "ahead", "close" and the two warnings (document 01, "Rules of each event").
+ghost use mathlib.Core.Path.{_≡_};
+ghost use Prim.Native.Nat.{_≤_};
+ghost use Rattle.car.specs.Distance.{metres, secureDistance, ahead, within, close, visual, acoustic};
+ghost use Rattle.car.specs.Standing.{Ranges};
+use crate::Car;
+
+// The way in metres at a speed, in a time of tenths of a second: worked in 64 bits.
+fn metres(tenths: u32, speed: u32) -> u32
+    requires { ⌜ (tenths ≤ 30) × (speed ≤ 5000) ⌝ }
+    ensures { λ r. ⌜ r ≡ metres tenths speed ⌝ }
+{
+    ((tenths as u64) * (speed as u64) / 360) as u32
+}
+
+impl Car {
+    // N
+    pub(crate) fn secure_distance(self) -> u32
+        requires { ⌜ Ranges self ⌝ }
+        ensures { λ r. ⌜ r ≡ secureDistance self ⌝ }
+    {
+        if self.radar.lead > 200 {
+            return metres(self.gap, self.speed);
+        }
+        if (self.radar.lead == 0) & (self.speed == 0) {
+            return 2;
+        }
+        if (self.radar.lead == 0) | (self.radar.lead < self.radar.earlier) {
+            return metres(25, self.speed);
+        }
+        metres(30, self.speed)
+    }
+
+    pub(crate) fn ahead(self) -> bool
+        ensures { λ r. ⌜ r ≡ ahead self ⌝ }
+    {
+        (self.settings.mode == 2)
+            & self.cruise.on
+            & (1 <= self.radar.range)
+            & (self.radar.range <= 254)
+    }
+
+    // A car ahead, nearer than the distance.
+    fn within(self, distance: u32) -> bool
+        ensures { λ r. ⌜ r ≡ within self distance ⌝ }
+    {
+        self.ahead() & (self.radar.range < distance)
+    }
+
+    pub(crate) fn close(self) -> bool
+        requires { ⌜ Ranges self ⌝ }
+        ensures { λ r. ⌜ r ≡ close self ⌝ }
+    {
+        self.within(self.secure_distance())
+    }
+
+    pub(crate) fn visual(self) -> bool
+        requires { ⌜ Ranges self ⌝ }
+        ensures { λ r. ⌜ r ≡ visual self ⌝ }
+    {
+        self.within(metres(15, self.speed))
+    }
+
+    pub(crate) fn acoustic(self) -> bool
+        requires { ⌜ Ranges self ⌝ }
+        ensures { λ r. ⌜ r ≡ acoustic self ⌝ }
+    {
+        self.within(metres(8, self.speed))
+    }
+}
