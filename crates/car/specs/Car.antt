@@ -5,6 +5,11 @@ use Prim.Native.Nat.{ℕ}
 use lib.Dec.{eqb, leb, ltb}
 use Rattle.kit.specs.Pick.{pick}
 use Rattle.car.specs.declared.Settings.{Settings}
+use Rattle.car.specs.declared.Levers.{Levers}
+use Rattle.car.specs.declared.Pedals.{Pedals}
+use Rattle.car.specs.declared.Limiter.{Limiter}
+use Rattle.car.specs.declared.Cruise.{Cruise}
+use Rattle.car.specs.declared.RangeRadar.{RangeRadar}
 use Rattle.car.specs.declared.Car.{Car}
 use Rattle.car.specs.declared.Fresh.{Fresh}
 use Rattle.car.specs.declared.Fresh.the-variants.{Made, Refused}
@@ -39,3 +44,23 @@ freshOf mode signs = pick (check17 mode signs) (Refused 17) (Made (freshCar (set
 -- the ceiling of D and B
 unfoldable pub ceilingOf : Settings → ℕ
 ceilingOf s = 2000
+
+-- ---- the same car with one part changed
+unfoldable pub withLevers : Car → Levers → Car
+withLevers c x = record { settings = c .settings; key = c .key; levers = x; pedals = c .pedals; limiter = c .limiter; cruise = c .cruise; radar = c .radar; gap = c .gap; speed = c .speed; now = c .now }
+
+unfoldable pub withPedals : Car → Pedals → Car
+withPedals c x = record { settings = c .settings; key = c .key; levers = c .levers; pedals = x; limiter = c .limiter; cruise = c .cruise; radar = c .radar; gap = c .gap; speed = c .speed; now = c .now }
+
+unfoldable pub withLimiter : Car → Limiter → Car
+withLimiter c x = record { settings = c .settings; key = c .key; levers = c .levers; pedals = c .pedals; limiter = x; cruise = c .cruise; radar = c .radar; gap = c .gap; speed = c .speed; now = c .now }
+
+unfoldable pub withCruise : Car → Cruise → Car
+withCruise c x = record { settings = c .settings; key = c .key; levers = c .levers; pedals = c .pedals; limiter = c .limiter; cruise = x; radar = c .radar; gap = c .gap; speed = c .speed; now = c .now }
+
+unfoldable pub withRadar : Car → RangeRadar → Car
+withRadar c x = record { settings = c .settings; key = c .key; levers = c .levers; pedals = c .pedals; limiter = c .limiter; cruise = c .cruise; radar = x; gap = c .gap; speed = c .speed; now = c .now }
+
+unfoldable pub withGap : Car → ℕ → Car
+withGap c x = record { settings = c .settings; key = c .key; levers = c .levers; pedals = c .pedals; limiter = c .limiter; cruise = c .cruise; radar = c .radar; gap = x; speed = c .speed; now = c .now }
+

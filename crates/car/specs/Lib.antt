@@ -9,3 +9,7 @@ pub mod AccelerationLaws
 pub mod DistanceLaws
 pub mod Figures
 pub mod FiguresTable
+pub mod Rules
+pub mod Checks
+pub mod Drive
+pub mod DriveLaws

@@ -43,8 +43,8 @@ pub(crate) fn stepped(top: u32, position: u32, d: u32) -> u32
 }
 
 // D after h seconds at the position, for h of 2 and more.
-fn long_held(top: u32, position: u32, base: u32, h: u32) -> u32
-    requires { ⌜ h ≤ 86400 ⌝ }
+pub(crate) fn long_held(top: u32, position: u32, base: u32, h: u32) -> u32
+    requires { ⌜ h ≤ 86401 ⌝ }
     ensures { λ r. ⌜ r ≡ longHeld top position base h ⌝ }
 {
     match position {
@@ -56,7 +56,7 @@ fn long_held(top: u32, position: u32, base: u32, h: u32) -> u32
 }
 
 pub(crate) fn held(top: u32, position: u32, base: u32, h: u32) -> u32
-    requires { ⌜ h ≤ 86400 ⌝ }
+    requires { ⌜ h ≤ 86401 ⌝ }
     ensures { λ r. ⌜ r ≡ held top position base h ⌝ }
 {
     if h < 2 {

@@ -4,11 +4,15 @@ ghost use mathlib.Core.Path.{_≡_};
 ghost use Rattle.car.specs.Car.{freshOf, freshCar, ceilingOf};
 
 pub mod acceleration;
+mod checks;
 mod distance;
+pub mod drive;
 pub mod figures;
 mod good;
 mod lever;
 mod number;
+mod rules;
+mod tick;
 
 pub struct Settings {
     pub mode: u32, // 1 normal cruise, 2 adaptive

@@ -1,0 +1,15 @@
+use Rattle.car.specs.Rules.{holdDesired}
+use Rattle.kit.specs.Pick.{picks}
+use borrow.Author.Needs.{needs}
+use Rattle.car.proofs.Car.hold_desired.Statement.{statement}
+use Rattle.car.proofs.Car.hold_desired.Tie as tie
+
+pub hold-desired-spec : {M : Type 1} → statement M
+unfolding holdDesired
+hold-desired-spec =
+    tie.close
+    (tie.spec
+    (λ c κs. search needs)
+    (λ c κs. search needs)
+    (λ c. search (picks, c .long-held .ensures, c .before .ceiling .ensures))
+    (λ c. search picks))

@@ -1,0 +1,12 @@
+use Rattle.car.specs.Checks.{keyOn}
+use Rattle.kit.specs.Pick.{picks}
+use Rattle.car.proofs.Car.key_on.Statement.{statement}
+use Rattle.car.proofs.Car.key_on.Tie as tie
+
+pub key-on-spec : {M : Type 1} → statement M
+unfolding keyOn
+key-on-spec =
+    tie.close
+    (tie.spec
+    (λ c. search picks)
+    (λ c. search picks))
