@@ -63,4 +63,3 @@ withRadar c x = record { settings = c .settings; key = c .key; levers = c .lever
 
 unfoldable pub withGap : Car → ℕ → Car
 withGap c x = record { settings = c .settings; key = c .key; levers = c .levers; pedals = c .pedals; limiter = c .limiter; cruise = c .cruise; radar = c .radar; gap = x; speed = c .speed; now = c .now }
-

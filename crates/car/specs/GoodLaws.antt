@@ -23,6 +23,14 @@ pub ceiling-le : (s : Settings) → ceilingOf s ≤ 2000
 unfolding ceilingOf
 ceiling-le s = omega arith
 
+pub ceiling-low : (s : Settings) → 10 ≤ ceilingOf s
+unfolding ceilingOf
+ceiling-low s = omega arith
+
+pub ceiling-high : (s : Settings) → 2000 ≤ ceilingOf s
+unfolding ceilingOf
+ceiling-high s = omega arith
+
 -- ---- the ranges
 some-eqb : (n : ℕ) → 1 ≤ n → eqb n 0 ≡ false
 some-eqb n h = ne-eqb n 0 (omega arith)

@@ -9,7 +9,11 @@ pub mod AccelerationLaws
 pub mod DistanceLaws
 pub mod Figures
 pub mod FiguresTable
+pub mod LeverLaws
 pub mod Rules
+pub mod KeepLaws
 pub mod Checks
 pub mod Drive
 pub mod DriveLaws
+pub mod Neighbours
+pub mod StepLaws

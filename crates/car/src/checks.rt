@@ -2,8 +2,9 @@
 ghost use mathlib.Core.Path.{_≡_};
 ghost use Rattle.car.specs.Checks.{keyOn, keySkips, keyCheck, upDownSkips, upDownCheck, foreBackSkips, foreBackCheck, brakeCheck, gasCheck, buttonCheck, radarCheck, tickCheckAt, tickCheck, eventCheck};
 ghost use Rattle.car.specs.Standing.{Ranges};
-use event::{refusal, Event};
 use crate::Car;
+use event::Event;
+use event::refusal;
 
 fn key_skips(from: u32, to: u32) -> bool
     ensures { λ r. ⌜ r ≡ keySkips from to ⌝ }

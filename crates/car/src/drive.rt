@@ -3,8 +3,10 @@ ghost use mathlib.Core.Path.{_≡_};
 ghost use Rattle.event.specs.declared.Event.{Event};
 ghost use Rattle.car.specs.Drive.{eventNext, takenOf, stepOf, driveOf};
 ghost use Rattle.car.specs.Standing.{Ranges};
-use event::{refusal, Event, Reading};
 use crate::Car;
+use event::Event;
+use event::Reading;
+use event::refusal;
 
 // The car after a word, and the word's refusal or 0. A refused word leaves the car as it was.
 pub struct Driven {

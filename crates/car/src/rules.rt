@@ -1,9 +1,14 @@
 // The rules of the nine events beside the tick (document 01, "Rules of each event"): one method for each, the car in whole and back whole.
 ghost use mathlib.Core.Path.{_≡_};
 ghost use Rattle.car.specs.Rules.{keyRadar, keyTurned, leverDesired, manualAfter, whileHeld, upDownMoved, withForeback, engages, startDesired, engaged, forward, cruiseOff, backward, foreBackMoved, brakePressed, gasPressed, buttonPressed, gapChosen, signActs, signDesired, signAfter, signPassed, readingTaken};
+use crate::Car;
+use crate::Cruise;
+use crate::Limiter;
+use crate::Pedals;
+use crate::RangeRadar;
+use crate::ceiling;
 use crate::lever::stepped;
 use crate::number::least;
-use crate::{ceiling, Car, Cruise, Limiter, Pedals, RangeRadar};
 
 fn key_radar(position: u32, ready: bool, now: u32) -> RangeRadar
     ensures { λ r. ⌜ r ≡ keyRadar position ready now ⌝ }

@@ -4,10 +4,13 @@ ghost use Prim.Native.Nat.{_≤_};
 ghost use Rattle.car.specs.Acceleration.{change};
 ghost use Rattle.car.specs.Rules.{testDue, rangeAfter, radarTested, radarAfter, holdDesired, tickDesired, moved, atMost, holdsDesired, tickSpeed, ticked};
 ghost use Rattle.car.specs.Standing.{Ranges};
+use crate::Car;
+use crate::RangeRadar;
 use crate::acceleration::Acceleration;
+use crate::ceiling;
 use crate::lever::long_held;
-use crate::number::{least, less};
-use crate::{ceiling, Car, RangeRadar};
+use crate::number::least;
+use crate::number::less;
 
 fn range_after(ready: bool, range: u32) -> u32
     ensures { λ r. ⌜ r ≡ rangeAfter ready range ⌝ }
@@ -77,7 +80,12 @@ impl Car {
         ensures { λ r. ⌜ r ≡ holdDesired self h ⌝ }
     {
         if (self.levers.updown != 0) & (h >= 2) {
-            return long_held(ceiling(self.settings), self.levers.updown, self.levers.base, h);
+            return long_held(
+                ceiling(self.settings),
+                self.levers.updown,
+                self.levers.base,
+                h,
+            );
         }
         self.cruise.desired
     }

@@ -1,9 +1,11 @@
 // Drives lessons of standard input, each a count of its words, a settings word and its event words (little-endian), and prints for each
 // the listing of document 01: a head line, then for each event its number, refusal, v, D, a and both warnings.
+use car::Car;
+use car::Fresh;
 use car::acceleration::Acceleration;
 use car::figures::Figures;
-use car::{Car, Fresh};
-use libc::{STDIN_FILENO, STDOUT_FILENO};
+use libc::STDIN_FILENO;
+use libc::STDOUT_FILENO;
 
 fn next_word() -> u32 {
     let mut bytes = [0u8; 4];
