@@ -95,17 +95,17 @@ module _ (c : Car) where
   unfolding ruleB
   b-test p = or-test _ _ (λ t. eq-eqb _ _ (p (eqb-some _ t)))
 
-  cruise-on : Ranges c → ruleC c ≡ true → c .cruise .on ≡ true → Cruising c
+  cruise-on : Ranges c → ruleC c ≡ true → c .cruise .on ≡ true → Cruising (c .pedals .brake) (c .levers .foreback) (c .cruise .desired) (ceilingOf (c .settings))
   unfolding ruleC
   cruise-on r h e =
       let t : cruisingOf c ≡ true = implied _ _ h e in
       search (and-l, and-r, eqb-true, leb-true, not-is, eqb-false) depth 12
 
-  c-test : (c .cruise .on ≡ true → Cruising c) → ruleC c ≡ true
+  c-test : (c .cruise .on ≡ true → Cruising (c .pedals .brake) (c .levers .foreback) (c .cruise .desired) (ceilingOf (c .settings))) → ruleC c ≡ true
   unfolding ruleC
   c-test p = implies-test _ _ (λ t. let f = p t in search (and-both, eq-eqb, le-leb, not-of-false, ne-eqb) depth 12)
 
-  limiter-on : ruleD c ≡ true → c .limiter .on ≡ true → Limiting c
+  limiter-on : ruleD c ≡ true → c .limiter .on ≡ true → Limiting (c .limiter .button) (c .pedals .gas) (c .speed) (c .limiter .limit)
   unfolding ruleD
   limiter-on h e =
       let s : (not (c .limiter .on) || limitingOf c) ≡ true = search (and-l) in
@@ -119,7 +119,7 @@ module _ (c : Car) where
       let t : buttonOf c ≡ true = implied _ _ s e in
       search (and-l, and-r, eqb-true, not-is, eqb-false) depth 12
 
-  d-test : (c .limiter .on ≡ true → Limiting c) → (c .limiter .button ≡ true → (c .key ≡ 2) × (c .levers .foreback ≡ 2 → ⊥)) → ruleD c ≡ true
+  d-test : (c .limiter .on ≡ true → Limiting (c .limiter .button) (c .pedals .gas) (c .speed) (c .limiter .limit)) → (c .limiter .button ≡ true → (c .key ≡ 2) × (c .levers .foreback ≡ 2 → ⊥)) → ruleD c ≡ true
   unfolding ruleD
   d-test p q =
       and-both _ _

@@ -152,7 +152,7 @@ module _ (c : Car) (g : Good c) where
             search (arith);
         one-lever = λ _. m;
         cruise-on = λ t. let k = g .cruise-on t in record { brake = k .brake; lever = k .lever; low = leverDesired-pos x t; high = d };
-        limiter-on = λ t. let k = g .limiter-on t in record { button = k .button; gas = k .gas; speed = k .speed };
+        limiter-on = g .limiter-on;
         button-in = g .button-in;
         not-ready = g .not-ready;
         ready = g .ready;
@@ -179,7 +179,7 @@ module _ (c : Car) (g : Good c) where
         off = λ k. let o = g .off k in search (arith);
         one-lever = λ u. omega arith;
         cruise-on = λ t. let k = g .cruise-on t in record { brake = k .brake; lever = m; low = k .low; high = k .high };
-        limiter-on = λ t. let k = g .limiter-on t in record { button = k .button; gas = k .gas; speed = k .speed };
+        limiter-on = g .limiter-on;
         button-in = λ t. (g .button-in t .0, m);
         not-ready = g .not-ready;
         ready = g .ready;
@@ -199,7 +199,7 @@ module _ (c : Car) (g : Good c) where
         off = λ q. absurd (q k);
         one-lever = λ u. omega arith;
         cruise-on = λ t. record { brake = b; lever = omega arith; low = low; high = high };
-        limiter-on = λ t. let k = g .limiter-on t in record { button = k .button; gas = k .gas; speed = k .speed };
+        limiter-on = g .limiter-on;
         button-in = λ t. (k, omega arith);
         not-ready = g .not-ready;
         ready = g .ready;
@@ -248,7 +248,7 @@ module _ (c : Car) (g : Good c) where
         off = λ k. let o = g .off k in search (arith);
         one-lever = g .one-lever;
         cruise-on = λ e. no (sym e);
-        limiter-on = λ t. let k = g .limiter-on t in record { button = k .button; gas = k .gas; speed = k .speed };
+        limiter-on = g .limiter-on;
         button-in = g .button-in;
         not-ready = g .not-ready;
         ready = g .ready;
@@ -316,7 +316,7 @@ module _ (c : Car) (g : Good c) where
         one-pedal = g .one-pedal;
         off = λ q. absurd (q k);
         one-lever = g .one-lever;
-        cruise-on = λ t. let k = g .cruise-on t in record { brake = k .brake; lever = k .lever; low = k .low; high = k .high };
+        cruise-on = g .cruise-on;
         limiter-on = λ t. let k = on t in record { button = k .0; gas = k .1; speed = k .2 };
         button-in = λ t. (k, in′ t);
         not-ready = g .not-ready;
@@ -336,8 +336,8 @@ module _ (c : Car) (g : Good c) where
         one-pedal = g .one-pedal;
         off = λ k. let o = g .off k in search (arith);
         one-lever = g .one-lever;
-        cruise-on = λ t. let k = g .cruise-on t in record { brake = k .brake; lever = k .lever; low = k .low; high = k .high };
-        limiter-on = λ t. let k = g .limiter-on t in record { button = k .button; gas = k .gas; speed = k .speed };
+        cruise-on = g .cruise-on;
+        limiter-on = g .limiter-on;
         button-in = g .button-in;
         not-ready = g .not-ready;
         ready = g .ready;
@@ -396,7 +396,7 @@ module _ (c : Car) (g : Good c) where
         off = λ q. absurd (q k);
         one-lever = g .one-lever;
         cruise-on = λ t. let k = g .cruise-on t in record { brake = k .brake; lever = k .lever; low = signAfter-pos s t; high = d };
-        limiter-on = λ t. let k = g .limiter-on t in record { button = k .button; gas = k .gas; speed = k .speed };
+        limiter-on = g .limiter-on;
         button-in = g .button-in;
         not-ready = g .not-ready;
         ready = g .ready;
@@ -416,8 +416,8 @@ module _ (c : Car) (g : Good c) where
         one-pedal = g .one-pedal;
         off = λ k. let o = g .off k in let q = p .off k in search (arith);
         one-lever = g .one-lever;
-        cruise-on = λ t. let k = g .cruise-on t in record { brake = k .brake; lever = k .lever; low = k .low; high = k .high };
-        limiter-on = λ t. let k = g .limiter-on t in record { button = k .button; gas = k .gas; speed = k .speed };
+        cruise-on = g .cruise-on;
+        limiter-on = g .limiter-on;
         button-in = g .button-in;
         not-ready = p .not-ready;
         ready = p .ready;

@@ -17,3 +17,5 @@ pub mod Drive
 pub mod DriveLaws
 pub mod Neighbours
 pub mod StepLaws
+pub mod Lesson
+pub mod LessonLaws

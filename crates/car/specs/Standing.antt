@@ -49,18 +49,18 @@ pub record Off (c : Car) : Type 0 where
   pub tested : c .radar .tested ≡ 0
   pub range : c .radar .range ≡ 255
 
--- (c) with cruise on
-pub record Cruising (c : Car) : Type 0 where
-  pub brake : c .pedals .brake ≡ 0
-  pub lever : c .levers .foreback ≡ 2 → ⊥
-  pub low : 1 ≤ c .cruise .desired
-  pub high : c .cruise .desired ≤ ceilingOf (c .settings)
+-- (c) with cruise on: b, M, D and its ceiling
+pub record Cruising (b m d top : ℕ) : Type 0 where
+  pub brake : b ≡ 0
+  pub lever : m ≡ 2 → ⊥
+  pub low : 1 ≤ d
+  pub high : d ≤ top
 
--- (d) with the limiter on
-pub record Limiting (c : Car) : Type 0 where
-  pub button : c .limiter .button ≡ true
-  pub gas : c .pedals .gas ≤ 90
-  pub speed : c .speed ≤ c .limiter .limit
+-- (d) with the limiter on: H, g, v and Z
+pub record Limiting (h : Bool) (g v z : ℕ) : Type 0 where
+  pub button : h ≡ true
+  pub gas : g ≤ 90
+  pub speed : v ≤ z
 
 -- a good car: one field for each sentence
 pub record Good (c : Car) : Type 0 where
@@ -76,9 +76,9 @@ pub record Good (c : Car) : Type 0 where
   -- (b) "L or M is neutral"
   pub one-lever : 1 ≤ c .levers .updown → c .levers .foreback ≡ 0
   -- (c) "C = 1: b = 0, M not backward, 1 ≤ D ≤ 2000"
-  pub cruise-on : c .cruise .on ≡ true → Cruising c
+  pub cruise-on : c .cruise .on ≡ true → Cruising (c .pedals .brake) (c .levers .foreback) (c .cruise .desired) (ceilingOf (c .settings))
   -- (d) "S = 1: H = 1, g ≤ 90, v ≤ Z"
-  pub limiter-on : c .limiter .on ≡ true → Limiting c
+  pub limiter-on : c .limiter .on ≡ true → Limiting (c .limiter .button) (c .pedals .gas) (c .speed) (c .limiter .limit)
   -- (d) "H = 1: key on, M not backward"
   pub button-in : c .limiter .button ≡ true → (c .key ≡ 2) × (c .levers .foreback ≡ 2 → ⊥)
   -- (e) "R = 255 exactly when P = 0"

@@ -112,7 +112,7 @@ fn urged(gas: u32, s: Acceleration) -> Acceleration
 }
 
 impl Car {
-    fn target(self) -> u32
+    fn target_speed(self) -> u32
         requires { ⌜ Ranges self ⌝ }
         ensures { λ r. ⌜ r ≡ target self ⌝ }
     {
@@ -126,7 +126,7 @@ impl Car {
         requires { ⌜ Ranges self ⌝ }
         ensures { λ r. ⌜ r ≡ cruising self ⌝ }
     {
-        urged(self.pedals.gas, towards(self.speed, self.target()))
+        urged(self.pedals.gas, towards(self.speed, self.target_speed()))
     }
 
     pub(crate) fn acceleration(self) -> Acceleration

@@ -9,6 +9,7 @@ mod distance;
 pub mod drive;
 pub mod figures;
 mod good;
+pub mod lesson;
 mod lever;
 mod number;
 mod rules;

@@ -30,7 +30,7 @@ radar-le : (range speed : ℕ) → (leb range 254 && leb speed 5000) ≡ true �
 radar-le range speed h =
     (leb-true range 254 (and-l (leb range 254) (leb speed 5000) h), leb-true speed 5000 (and-r (leb range 254) (leb speed 5000) h))
 
-bit-le : (b : Bool) → bitOf b ≤ 1
+pub bit-le : (b : Bool) → bitOf b ≤ 1
 unfolding bitOf pick
 bit-le true = omega arith
 bit-le false = omega arith

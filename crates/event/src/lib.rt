@@ -154,7 +154,8 @@ fn word(event: Event) -> u32
     }
 }
 
-fn bit(flag: bool) -> u32
+// A flag as a bit.
+pub fn bit(flag: bool) -> u32
     ensures { λ r. ⌜ r ≡ bitOf flag ⌝ }
 {
     if flag { 1 } else { 0 }

@@ -40,3 +40,7 @@ pub const CLOCK_AT_END: u32 = 16;
 pub const SETTINGS: u32 = 17;
 
 pub const NOT_ACCEPTED: u32 = 18;
+
+pub const SHORT_ANSWERS: u32 = 19;
+
+pub const SHORT_RECORD: u32 = 20;

@@ -10,6 +10,6 @@ cruising-spec =
     tie.close
     (tie.spec
     (λ c κs. search needs)
-    (λ c κs. (search needs, rw (c .target .ensures) (target-le _ (c .before .pre))))
+    (λ c κs. (search needs, rw (c .target-speed .ensures) (target-le _ (c .before .pre))))
     (λ c κs. search needs)
     (λ c. cc))

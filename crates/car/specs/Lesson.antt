@@ -1,0 +1,76 @@
+-- A lesson: document 01, "A lesson", and refusals 18 and 19.
+-- Assumes nothing.
+use mathlib.Core.List.{List, [], _∷_, _++_}
+use Prim.Native.Nat.{ℕ, _+_, _-_, _*_}
+use lib.Dec.{eqb, ltb}
+use lib.ListN.{length, drop}
+use Rattle.kit.specs.Pick.{pick}
+use Rattle.event.specs.Words.{bitOf}
+use Rattle.car.specs.declared.Car.{Car}
+use Rattle.car.specs.declared.acceleration.Acceleration.{Acceleration}
+use Rattle.car.specs.declared.drive.Driven.{Driven}
+use Rattle.car.specs.declared.lesson.Taught.{Taught}
+use Rattle.car.specs.Acceleration.{accelerationOf}
+use Rattle.car.specs.Distance.{visual, acoustic}
+use Rattle.car.specs.Drive.{stepOf}
+use Rattle.car.specs.Good.{goodOf}
+
+-- "a + 60"
+unfoldable pub accelerationCode : Acceleration → ℕ
+accelerationCode a = pick (a .slows) (60 - a .size) (60 + a .size)
+
+-- "kind 12, bits 0-4 refusal or 0, 5 visual, 6 acoustic, 7-13 a + 60, 14-24 D, the rest 0"
+unfoldable pub answerWord : ℕ → ℕ → ℕ → ℕ → ℕ → ℕ
+answerWord refusal visual acoustic acceleration desired =
+    12 * 268435456 + refusal + 32 * visual + 64 * acoustic + 128 * acceleration + 16384 * desired
+
+-- "all of the car afterwards"
+unfoldable pub answerOf : Driven → ℕ
+answerOf d =
+    answerWord (d .refusal) (bitOf (visual (d .car))) (bitOf (acoustic (d .car))) (accelerationCode (accelerationOf (d .car))) (d .car .cruise .desired)
+
+-- ---- words driven one after the other, by the checks 1 to 16 and the rules alone: the last car, the answers, the counts
+unfoldable pub driven : Car → List ℕ → Car
+driven c [] = c
+driven c (w ∷ ws) = driven (stepOf c w .car) ws
+
+unfoldable pub answersOf : Car → List ℕ → List ℕ
+answersOf c [] = []
+answersOf c (w ∷ ws) = answerOf (stepOf c w) ∷ answersOf (stepOf c w .car) ws
+
+-- 1 for a word that is accepted, and for one that is refused
+abbrev pub accepts : Driven → ℕ
+accepts d = pick (eqb (d .refusal) 0) 1 0
+
+abbrev pub refuses : Driven → ℕ
+refuses d = pick (eqb (d .refusal) 0) 0 1
+
+unfoldable pub acceptedOf : Car → List ℕ → ℕ
+acceptedOf c [] = 0
+acceptedOf c (w ∷ ws) = accepts (stepOf c w) + acceptedOf (stepOf c w .car) ws
+
+unfoldable pub refusedOf : Car → List ℕ → ℕ
+refusedOf c [] = 0
+refusedOf c (w ∷ ws) = refuses (stepOf c w) + refusedOf (stepOf c w .car) ws
+
+-- a lesson that ran
+unfoldable pub taughtOf : Car → List ℕ → Taught
+taughtOf c ws = record { car = driven c ws; accepted = acceptedOf c ws; refused = refusedOf c ws; refusal = 0 }
+
+-- one that did not: "car and buffers kept, counts 0"
+unfoldable pub untaught : Car → ℕ → Taught
+untaught c refusal = record { car = c; accepted = 0; refused = 0; refusal = refusal }
+
+-- 18 first; 19 "answer buffer shorter than the words: nothing runs"
+unfoldable pub lessonOf : Car → List ℕ → List ℕ → Taught
+lessonOf c ws buffer =
+    pick (goodOf c)
+    (pick (ltb (length buffer) (length ws)) (untaught c 19) (taughtOf c ws))
+    (untaught c 18)
+
+-- the answer buffer afterwards: "Answer words past the lesson keep their contents"
+unfoldable pub answersAfter : Car → List ℕ → List ℕ → List ℕ
+answersAfter c ws buffer =
+    pick (goodOf c)
+    (pick (ltb (length buffer) (length ws)) buffer (answersOf c ws ++ drop (length ws) buffer))
+    buffer
