@@ -35,7 +35,7 @@ unfolding bitOf pick
 bit-le true = omega arith
 bit-le false = omega arith
 
-bit-flag : (b : Bool) → eqb (bitOf b) 1 ≡ b
+pub bit-flag : (b : Bool) → eqb (bitOf b) 1 ≡ b
 unfolding bitOf pick
 bit-flag true = refl
 bit-flag false = refl

@@ -1,0 +1,5 @@
+pub mod Accepted
+pub mod Layout
+pub mod LayoutLaws
+pub mod Record
+pub mod RecordLaws
