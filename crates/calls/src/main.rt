@@ -1,11 +1,18 @@
 // Runs the calls of standard input (words, little-endian): 1 mode signs, a fresh car; 2 and 23 fields, a car as it stands; 3 word, one
 // word driven; 4 size count words, a lesson with an answer buffer of that size; 5 size, a record call with a buffer of that size; 0 ends.
-// Prints for each its refusal (a lesson's counts behind it; a word's answer word), then its buffer, then the car's fields in document 01's order.
+// Prints for each its refusal (a lesson's counts behind it; a word's answer word, and whether the cars before and after it are alike), then its buffer, then the car's fields in document 01's order.
 ghost use Prim.Native.Nat.{_≤_};
 ghost use mathlib.Core.Path.{_≡_};
 ghost use lib.ListN.{length};
-use car::{Car, Fresh, Levers, Limiter, Pedals, RangeRadar, Settings};
-use libc::{STDIN_FILENO, STDOUT_FILENO};
+use car::Car;
+use car::Fresh;
+use car::Levers;
+use car::Limiter;
+use car::Pedals;
+use car::RangeRadar;
+use car::Settings;
+use libc::STDIN_FILENO;
+use libc::STDOUT_FILENO;
 
 // A lesson's words start here in the program's own array.
 const START: usize = 3;
@@ -167,11 +174,13 @@ fn drive(car: Car) -> Car {
     let driven = car.drive(word);
     let mut answer = [0u32; 1];
     car.lesson(&[word], &mut answer);
+    let after = driven.car;
     number(driven.refusal);
     number(answer[0]);
+    flag(alike::alike(car, after));
     end_line();
-    print_car(driven.car);
-    driven.car
+    print_car(after);
+    after
 }
 
 fn put(words: &mut [u32], i: usize, word: u32)

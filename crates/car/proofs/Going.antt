@@ -16,10 +16,10 @@ use Rattle.car.specs.declared.drive.Driven.{Driven}
 use Rattle.car.specs.declared.lesson.Taught.{Taught}
 use Rattle.car.specs.Drive.{stepOf}
 use Rattle.car.specs.Good.{goodOf}
-use Rattle.car.specs.Lesson.{answerOf, accepts, refuses, driven, answersOf, acceptedOf, refusedOf, taughtOf}
+use Rattle.car.specs.Lesson.{accepts, refuses, driven, eachOf, acceptedOf, refusedOf, taughtOf}
 use Rattle.car.specs.StepLaws.{step-good}
 
-pub record Going (ws buf₀ : List ℕ) (c₀ : Car) (buf : List ℕ) (c : Car) (a r i : ℕ) : Type 0 where
+pub record Going (f : Driven → ℕ) (ws buf₀ : List ℕ) (c₀ : Car) (buf : List ℕ) (c : Car) (a r i : ℕ) : Type 0 where
   pub at : i ≤ length ws
   pub room : length ws ≤ length buf₀
   pub same : length buf ≡ length buf₀
@@ -28,7 +28,7 @@ pub record Going (ws buf₀ : List ℕ) (c₀ : Car) (buf : List ℕ) (c : Car) 
   pub car : driven c (drop i ws) ≡ driven c₀ ws
   pub acc : a + acceptedOf c (drop i ws) ≡ acceptedOf c₀ ws
   pub ref : r + refusedOf c (drop i ws) ≡ refusedOf c₀ ws
-  pub ans : take i buf ++ answersOf c (drop i ws) ≡ answersOf c₀ ws
+  pub ans : take i buf ++ eachOf f c (drop i ws) ≡ eachOf f c₀ ws
   pub rest : drop i buf ≡ drop i buf₀
 
 -- a word is accepted or refused
@@ -37,12 +37,12 @@ unfolding pick
 one true = refl
 one false = refl
 
-module _ (ws buf₀ : List ℕ) (c₀ : Car) (buf : List ℕ) (c : Car) (a r i : ℕ) (h : i < length ws) (g : Going ws buf₀ c₀ buf c a r i) where
+module _ (f : Driven → ℕ) (ws buf₀ : List ℕ) (c₀ : Car) (buf : List ℕ) (c : Car) (a r i : ℕ) (h : i < length ws) (g : Going f ws buf₀ c₀ buf c a r i) where
   abbrev w : ℕ
   w = getD ws i 0
 
-  pub again : Going ws buf₀ c₀ (set buf i (answerOf (stepOf c w))) (stepOf c w .car) (a + accepts (stepOf c w)) (r + refuses (stepOf c w)) (i + 1)
-  unfolding driven acceptedOf refusedOf answersOf
+  pub again : Going f ws buf₀ c₀ (set buf i (f (stepOf c w))) (stepOf c w .car) (a + accepts (stepOf c w)) (r + refuses (stepOf c w)) (i + 1)
+  unfolding driven acceptedOf refusedOf eachOf
   again =
       record {
         at = omega arith;
@@ -53,13 +53,13 @@ module _ (ws buf₀ : List ℕ) (c₀ : Car) (buf : List ℕ) (c : Car) (a r i :
         car = simp add-one (rw (drop-cons ws i 0 h) at (g .car));
         acc = let e = rw (drop-cons ws i 0 h) at (g .acc) in simp add-one (omega (arith, e));
         ref = let e = rw (drop-cons ws i 0 h) at (g .ref) in simp add-one (omega (arith, e));
-        ans = simp (add-one, take-suc-set buf i (answerOf (stepOf c w)) (omega (arith, g .room, g .same)), append-assoc) (rw (drop-cons ws i 0 h) at (g .ans));
+        ans = simp (add-one, take-suc-set buf i (f (stepOf c w)) (omega (arith, g .room, g .same)), append-assoc) (rw (drop-cons ws i 0 h) at (g .ans));
         rest = drop-set-lt (i + 1) buf i _ (omega arith) ∙ sym (drop-drop 1 i buf) ∙ ap (drop 1) (g .rest) ∙ drop-drop 1 i buf₀;
       }
 
   -- the same for values that are known by equations
-  pub again-at : (s : Driven) (x a′ r′ : ℕ) → s ≡ stepOf c w → x ≡ answerOf s → a′ ≡ a + accepts s → r′ ≡ r + refuses s
-      → Going ws buf₀ c₀ (set buf i x) (s .car) a′ r′ (i + 1)
+  pub again-at : (s : Driven) (x a′ r′ : ℕ) → s ≡ stepOf c w → x ≡ f s → a′ ≡ a + accepts s → r′ ≡ r + refuses s
+      → Going f ws buf₀ c₀ (set buf i x) (s .car) a′ r′ (i + 1)
   again-at s x a′ r′ es ex ea er = rw (ex, ea, er, es) again
 
 pub counts-accepted : (s : Driven) → s .refusal ≡ 0 → (accepts s ≡ 1) × (refuses s ≡ 0)
@@ -69,10 +69,10 @@ pub counts-refused : (s : Driven) → (s .refusal ≡ 0 → ⊥) → (accepts s 
 counts-refused s h = (pick-false _ _ _ (ne-eqb _ _ h), pick-false _ _ _ (ne-eqb _ _ h))
 
 -- where the loop ends, and where it begins
-pub ends : (ws buf₀ : List ℕ) (c₀ : Car) (buf : List ℕ) (c : Car) (a r i : ℕ) → length ws ≤ i → Going ws buf₀ c₀ buf c a r i
-    → (_≡_ {A = Taught} (record { car = c; accepted = a; refused = r; refusal = 0 }) (taughtOf c₀ ws)) × (buf ≡ answersOf c₀ ws ++ drop (length ws) buf₀)
-unfolding driven acceptedOf refusedOf answersOf taughtOf
-ends ws buf₀ c₀ buf c a r i h g =
+pub ends : (f : Driven → ℕ) (ws buf₀ : List ℕ) (c₀ : Car) (buf : List ℕ) (c : Car) (a r i : ℕ) → length ws ≤ i → Going f ws buf₀ c₀ buf c a r i
+    → (_≡_ {A = Taught} (record { car = c; accepted = a; refused = r; refusal = 0 }) (taughtOf c₀ ws)) × (buf ≡ eachOf f c₀ ws ++ drop (length ws) buf₀)
+unfolding driven acceptedOf refusedOf eachOf taughtOf
+ends f ws buf₀ c₀ buf c a r i h g =
     (cc (e₁, e₂, e₃), sym (take-append-drop i buf) ∙ (rw (sym e₄, g .rest, is)))
   where
     gone : drop i ws ≡ []
@@ -90,9 +90,9 @@ ends ws buf₀ c₀ buf c a r i h g =
     e₃ : r ≡ refusedOf c₀ ws
     e₃ = let e = rw gone at (g .ref) in omega (arith, e)
 
-    e₄ : take i buf ≡ answersOf c₀ ws
+    e₄ : take i buf ≡ eachOf f c₀ ws
     e₄ = sym (append-nil (take i buf)) ∙ rw gone at (g .ans)
 
-pub begins : (ws buf : List ℕ) (c : Car) → goodOf c ≡ true → length ws ≤ length buf → Going ws buf c buf c 0 0 0
-begins ws buf c ok h =
+pub begins : (f : Driven → ℕ) (ws buf : List ℕ) (c : Car) → goodOf c ≡ true → length ws ≤ length buf → Going f ws buf c buf c 0 0 0
+begins f ws buf c ok h =
     record { at = omega arith; room = h; same = refl; ok = ok; sum = refl; car = refl; acc = omega arith; ref = omega arith; ans = refl; rest = refl }

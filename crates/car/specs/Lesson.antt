@@ -34,9 +34,13 @@ unfoldable pub driven : Car → List ℕ → Car
 driven c [] = c
 driven c (w ∷ ws) = driven (stepOf c w .car) ws
 
-unfoldable pub answersOf : Car → List ℕ → List ℕ
-answersOf c [] = []
-answersOf c (w ∷ ws) = answerOf (stepOf c w) ∷ answersOf (stepOf c w .car) ws
+-- a number for each word, of what it gives
+unfoldable pub eachOf : (Driven → ℕ) → Car → List ℕ → List ℕ
+eachOf f c [] = []
+eachOf f c (w ∷ ws) = f (stepOf c w) ∷ eachOf f (stepOf c w .car) ws
+
+abbrev pub answersOf : Car → List ℕ → List ℕ
+answersOf c ws = eachOf answerOf c ws
 
 -- 1 for a word that is accepted, and for one that is refused
 abbrev pub accepts : Driven → ℕ
@@ -68,9 +72,19 @@ lessonOf c ws buffer =
     (pick (ltb (length buffer) (length ws)) (untaught c 19) (taughtOf c ws))
     (untaught c 18)
 
--- the answer buffer afterwards: "Answer words past the lesson keep their contents"
-unfoldable pub answersAfter : Car → List ℕ → List ℕ → List ℕ
-answersAfter c ws buffer =
+-- the buffer afterwards, of a lesson that gives one number for each word: "Answer words past the lesson keep their contents"
+unfoldable pub eachAfter : (Driven → ℕ) → Car → List ℕ → List ℕ → List ℕ
+eachAfter f c ws buffer =
     pick (goodOf c)
-    (pick (ltb (length buffer) (length ws)) buffer (answersOf c ws ++ drop (length ws) buffer))
+    (pick (ltb (length buffer) (length ws)) buffer (eachOf f c ws ++ drop (length ws) buffer))
     buffer
+
+abbrev pub answersAfter : Car → List ℕ → List ℕ → List ℕ
+answersAfter c ws buffer = eachAfter answerOf c ws buffer
+
+-- ---- a row for each word, for a listing: the answer word, and above it in 64 bits the speed v
+unfoldable pub rowOf : Driven → ℕ
+rowOf d = answerOf d + 4294967296 * d .car .speed
+
+abbrev pub rowsAfter : Car → List ℕ → List ℕ → List ℕ
+rowsAfter c ws buffer = eachAfter rowOf c ws buffer

@@ -10,8 +10,8 @@ use event::refusal;
 
 // The car after a word, and the word's refusal or 0. A refused word leaves the car as it was.
 pub struct Driven {
-    pub car: Car,
     pub refusal: u32,
+    pub car: Car,
 }
 
 impl Car {

@@ -5,7 +5,7 @@ ghost use mathlib.Core.Path.{_≡_};
 ghost use lib.ListN.{drop, length};
 ghost use Prim.Native.Nat.{_≤_};
 ghost use Rattle.car.specs.Good.{goodOf};
-ghost use Rattle.car.specs.Lesson.{accelerationCode, answerWord, answerOf, answersOf, taughtOf, untaught, lessonOf, answersAfter};
+ghost use Rattle.car.specs.Lesson.{accelerationCode, answerWord, answerOf, answersOf, rowOf, eachOf, taughtOf, untaught, lessonOf, answersAfter, rowsAfter};
 ghost use Rattle.car.specs.Standing.{Ranges};
 use crate::Car;
 use crate::acceleration::Acceleration;
@@ -56,6 +56,15 @@ fn answer(driven: Driven) -> u32
     )
 }
 
+// The row of a word driven: its answer word, and above it the speed.
+fn row(driven: Driven) -> u64
+    requires { ⌜ (driven .refusal ≤ 16) × Ranges (driven .car) ⌝ }
+    ensures { λ r. ⌜ r ≡ rowOf driven ⌝ }
+{
+    let word = answer(driven);
+    word as u64 + 0x1_0000_0000 * driven.car.speed as u64
+}
+
 impl Car {
     fn untaught(self, refusal: u32) -> Taught
         ensures { λ r. ⌜ r ≡ untaught self refusal ⌝ }
@@ -96,6 +105,34 @@ impl Car {
         }
     }
 
+    // The same with a row for each word.
+    fn teach_rows(self, words: &[u32], rows: &mut [u64]) -> Taught
+        requires { ⌜ (goodOf self ≡ true) × (length (now words) ≤ length (now rows)) ⌝ }
+        ensures { λ r. ⌜ (r ≡ taughtOf self (now (words .entry))) × (now (rows .exit) ≡ eachOf rowOf self (now (words .entry)) ++ drop (length (now (words .entry))) (now (rows .entry))) ⌝ }
+    {
+        let mut car = self;
+        let mut accepted = 0;
+        let mut refused = 0;
+        let mut i = 0;
+        while i < words.len() {
+            let stepped = car.step(words[i]);
+            rows[i] = row(stepped);
+            if stepped.refusal == 0 {
+                accepted += 1;
+            } else {
+                refused += 1;
+            }
+            car = stepped.car;
+            i += 1;
+        }
+        Taught {
+            car: car,
+            accepted: accepted,
+            refused: refused,
+            refusal: 0,
+        }
+    }
+
     pub fn lesson(self, words: &[u32], answers: &mut [u32]) -> Taught
         ensures { λ r. ⌜ (r ≡ lessonOf self (now (words .entry)) (now (answers .entry))) × (now (answers .exit) ≡ answersAfter self (now (words .entry)) (now (answers .entry))) ⌝ }
     {
@@ -106,5 +143,18 @@ impl Car {
             return self.untaught(refusal::SHORT_ANSWERS);
         }
         self.teach(words, answers)
+    }
+
+    // A lesson with a row for each word, which a listing needs, for an answer word.
+    pub fn trace(self, words: &[u32], rows: &mut [u64]) -> Taught
+        ensures { λ r. ⌜ (r ≡ lessonOf self (now (words .entry)) (now (rows .entry))) × (now (rows .exit) ≡ rowsAfter self (now (words .entry)) (now (rows .entry))) ⌝ }
+    {
+        if !self.good() {
+            return self.untaught(refusal::NOT_ACCEPTED);
+        }
+        if rows.len() < words.len() {
+            return self.untaught(refusal::SHORT_ANSWERS);
+        }
+        self.teach_rows(words, rows)
     }
 }

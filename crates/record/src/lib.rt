@@ -2,7 +2,8 @@
 ghost use mathlib.Core.Path.{_≡_};
 ghost use Rattle.record.specs.Record.{readOf, writeOf, savedRefusal, savedBuffer};
 use car::Car;
-use event::refusal::{NOT_ACCEPTED, SHORT_RECORD};
+use event::refusal::NOT_ACCEPTED;
+use event::refusal::SHORT_RECORD;
 
 mod layout;
 mod words;

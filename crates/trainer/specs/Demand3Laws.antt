@@ -24,7 +24,7 @@ use Rattle.car.specs.DistanceLaws.{acoustic-visual}
 use Rattle.car.specs.Drive.{checkOf, stepOf, driveOf, eventNext}
 use Rattle.car.specs.Good.{goodOf, leverHeld}
 use Rattle.car.specs.GoodLaws.{good, made-good}
-use Rattle.car.specs.Lesson.{driven, answersOf, acceptedOf, refusedOf, taughtOf, untaught, lessonOf, answersAfter}
+use Rattle.car.specs.Lesson.{driven, answersOf, acceptedOf, refusedOf, taughtOf, untaught, lessonOf, answersAfter, eachAfter}
 use Rattle.car.specs.LessonLaws.{driven-good, refusal-le}
 use Rattle.car.specs.Lever.{held}
 use Rattle.car.specs.Neighbours.{isTick, isLever, Neighbours}
@@ -160,8 +160,11 @@ times-step c s w g h = by (word-view c w g)
     by : Word c w → Times (stepOf c w .car) (sinceWord c s w)
     by (took e _ a) = rw (a .lever, a .tick) (times-took c s w e a h (isLever e) (isTick e) refl refl)
     by (left n q) =
-        rw (pick-false (acceptedLever c w) (record { ticks = 0; left = stepOf c w .car .cruise .desired }) (pick (acceptedTick c w) (record { ticks = s .ticks + 1; left = s .left }) s) (and-left _ _ n),
-          pick-false (acceptedTick c w) (record { ticks = s .ticks + 1; left = s .left }) s (and-left _ _ n), q) h
+        rw (
+          pick-false (acceptedLever c w) (record { ticks = 0; left = stepOf c w .car .cruise .desired }) (pick (acceptedTick c w) (record { ticks = s .ticks + 1; left = s .left }) s) (and-left _ _ n),
+          pick-false (acceptedTick c w) (record { ticks = s .ticks + 1; left = s .left }) s (and-left _ _ n),
+          q,
+        ) h
 
 times-all : (c : Car) (s : Since) (ws : List ℕ) → goodOf c ≡ true → Times c s → Times (driven c ws) (since c s ws)
 unfolding driven since
@@ -220,6 +223,7 @@ alone-all c (w ∷ ws) g = by (word-view c w g) (alone-all (stepOf c w .car) ws 
   where
     rest : List ℕ
     rest = acceptedWords (stepOf c w .car) ws
+
     by : Word c w → (driven (stepOf c w .car) rest ≡ driven (stepOf c w .car) ws) × (refusedOf (stepOf c w .car) rest ≡ 0)
         → (driven c (pick (accepted c w) (w ∷ rest) rest) ≡ driven (stepOf c w .car) ws) × (refusedOf c (pick (accepted c w) (w ∷ rest) rest) ≡ 0)
     by (took e a _) ih =
@@ -263,7 +267,7 @@ unfolding outcome given
 word-good c w g = ap drove (drive-step c w g)
 
 lesson-good : (c : Car) (ws buffer : List ℕ) → goodOf c ≡ true → outcome c (lesson ws buffer) ≡ given c (lesson ws buffer)
-unfolding outcome given lessonOf answersAfter pick
+unfolding outcome given lessonOf eachAfter pick
 lesson-good c ws buffer g = rw g (go (ltb (length buffer) (length ws)))
   where
     go : (p : Bool) → taught (pick p (untaught c 19) (taughtOf c ws)) (pick p buffer (answersOf c ws ++ drop (length ws) buffer))

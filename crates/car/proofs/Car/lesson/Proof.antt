@@ -1,5 +1,5 @@
 use mathlib.Core.Path.{_≡_, refl, sym, _∙_}
-use Rattle.car.specs.Lesson.{lessonOf, answersAfter}
+use Rattle.car.specs.Lesson.{lessonOf, eachAfter}
 use borrow.Author.Tests.{lt-ltb, le-ltb, not-true, not-false}
 use Rattle.kit.specs.Pick.{pick}
 use borrow.Author.Needs.{needs}
@@ -13,7 +13,7 @@ untaught-requires : tie.Need-untaught-requires
 untaught-requires c κs = search needs
 
 returns : tie.Need-returns
-unfolding lessonOf answersAfter pick
+unfolding lessonOf eachAfter pick
 returns c =
     let h = sym (c .before .before .good2 .ensures) ∙ not-true _ (c .before .if1 .taken) in
     simp (h, c .untaught .ensures) (refl, refl)
@@ -22,13 +22,13 @@ untaught-requires-2 : tie.Need-untaught-requires-2
 untaught-requires-2 c κs = search needs
 
 returns-2 : tie.Need-returns-2
-unfolding lessonOf answersAfter pick
+unfolding lessonOf eachAfter pick
 returns-2 c =
     let h = sym (c .before .before .before .good2 .ensures) ∙ not-false _ (c .before .before .if1 .left) in
     simp (h, lt-ltb _ _ (c .before .if2 .taken), c .untaught2 .ensures) (refl, refl)
 
 teach-requires : tie.Need-teach-requires
-unfolding lessonOf answersAfter pick
+unfolding lessonOf eachAfter pick
 teach-requires c κs =
     (sym (c .before .before .before .good2 .ensures) ∙ not-false _ (c .before .before .if1 .left), c .before .if2 .left)
 
@@ -36,7 +36,7 @@ same-length : tie.Need-same-length
 same-length c = search needs
 
 returns-3 : tie.Need-returns-3
-unfolding lessonOf answersAfter pick
+unfolding lessonOf eachAfter pick
 returns-3 c =
     let h = sym (c .before .before .before .before .before .before .good2 .ensures) ∙ not-false _ (c .before .before .before .before .before .if1 .left) in
     simp (h, le-ltb _ _ (c .before .before .before .before .if2 .left)) (c .before .before .teach .ensures)

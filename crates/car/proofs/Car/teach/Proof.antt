@@ -6,6 +6,7 @@ use borrow.Author.Needs.{needs}
 use borrow.Author.Tests.{eq-eqb, ne-eqb}
 use lib.ListN.{length, length-set}
 use Rattle.car.specs.GoodLaws.{good-ranges}
+use Rattle.car.specs.Lesson.{answerOf}
 use Rattle.car.specs.LessonLaws.{refusal-le}
 use Rattle.car.specs.StepLaws.{step-good}
 use Rattle.car.proofs.Going.{Going, again-at, counts-accepted, counts-refused, begins, ends}
@@ -13,13 +14,13 @@ use Rattle.car.proofs.Car.teach.Statement.{statement}
 use Rattle.car.proofs.Car.teach.Tie as tie
 
 abbrev Inv-loop : tie.InvT-loop
-Inv-loop words answers₀ car₀ accepted₀ refused₀ i₀ answers car accepted refused i = Going words answers₀ car₀ answers car accepted refused i
+Inv-loop words answers₀ car₀ accepted₀ refused₀ i₀ answers car accepted refused i = Going answerOf words answers₀ car₀ answers car accepted refused i
 
 abbrev μ-loop : tie.MeasureT-loop
 μ-loop words answers₀ car₀ accepted₀ refused₀ i₀ answers car accepted refused i = length words - i
 
 loop-holds : tie.Need-loop-holds Inv-loop μ-loop
-loop-holds c = begins _ _ _ (c .before .before .pre .0) (c .before .before .pre .1)
+loop-holds c = begins answerOf _ _ _ (c .before .before .pre .0) (c .before .before .pre .1)
 
 mul-step : tie.Need-mul-step Inv-loop μ-loop
 mul-step c = search needs
@@ -54,7 +55,7 @@ loop-less c = search needs
 loop-again : tie.Need-loop-again Inv-loop μ-loop
 loop-again c =
     let s = c .before .before .before .before .step .result in
-    let f = again-at _ _ _ _ _ _ _ _ (c .before .before .before .before .before .before .loop-test .taken) (c .before .before .before .before .before .before .before .loop .inv) (c .before .before .before .before .step .result) _ _ _ (c .before .before .before .before .step .ensures) (c .before .before .before .answer .ensures) in
+    let f = again-at answerOf _ _ _ _ _ _ _ _ (c .before .before .before .before .before .before .loop-test .taken) (c .before .before .before .before .before .before .before .loop .inv) (c .before .before .before .before .step .result) _ _ _ (c .before .before .before .before .step .ensures) (c .before .before .before .answer .ensures) in
     ⊎-elim
     (λ w. let y = counts-accepted s (w .0 .taken) in f (omega (arith, w .1, y)) (omega (arith, w .2, y)))
     (λ w. let y = counts-refused s (w .0 .left) in f (omega (arith, w .1, y)) (omega (arith, w .2, y)))
@@ -64,7 +65,7 @@ same-length : tie.Need-same-length Inv-loop μ-loop
 same-length c = search (needs, c .before .loop .inv .same)
 
 returns : tie.Need-returns Inv-loop μ-loop
-returns c = ends _ _ _ _ _ _ _ _ (c .loop-test .left) (c .before .loop .inv)
+returns c = ends answerOf _ _ _ _ _ _ _ _ (c .loop-test .left) (c .before .loop .inv)
 
 pub teach-spec : {M : Type 1} → statement M
 teach-spec =
