@@ -1,6 +1,6 @@
 -- Laws of the acceleration: a lies in -30..30, a second's change in -108..108; ÷ on the size is the document's ÷ on the signed number.
 -- Assumes nothing.
-use mathlib.Core.Bool.{Bool, true, false}
+use mathlib.Core.Bool.{Bool, true, false, true≢false}
 use mathlib.Core.Path.{_≡_, refl, sym, ap}
 use Prim.Native.Nat.{ℕ, zero, suc, _*_, _/_, _≤_, min, max}
 use lib.IntN.{ℤ, pos, negsuc, negℤ, _*ℤ_, negsuc-*ℤ-pos}
@@ -8,7 +8,7 @@ use lib.Dec.{leb, le→leb}
 use lib.Signed.{quotZ, leZ, _≤ℤ_}
 use native.Mathlib.Nat.{zero-div, zero-mul}
 use native.Mathlib.Omega.{arith}
-use borrow.Author.Tests.{leb-true, leb-false}
+use borrow.Author.Tests.{leb-true, leb-false, ltb-true}
 use Rattle.kit.specs.Pick.{pick, pick-le, pick-case}
 use Rattle.car.specs.declared.Car.{Car}
 use Rattle.car.specs.declared.acceleration.Acceleration.{Acceleration}
@@ -66,6 +66,37 @@ acceleration-size c r =
 pub change-size : (a : Acceleration) → a .size ≤ 30 → change a .size ≤ 108
 unfolding change
 change-size a h = omega arith
+
+-- ---- a slows only where its size is above 0, so the sign and size are the signed number's own
+abbrev Signed : Acceleration → Type 0
+Signed a = a .slows ≡ true → 1 ≤ a .size
+
+speeding-signed : (n : ℕ) → Signed (speeding n)
+unfolding speeding
+speeding-signed n e = absurd (true≢false (sym e))
+
+slowing-signed : (n : ℕ) → Signed (slowing n)
+unfolding slowing
+slowing-signed n e = ltb-true 0 n e
+
+towards-signed : (v x : ℕ) → Signed (towards v x)
+unfolding towards
+towards-signed v x =
+    pick-case Signed _ _ _ (λ _. speeding-signed _) (λ _. pick-case Signed _ _ _ (λ _. slowing-signed _) (λ _. speeding-signed 0))
+
+urged-signed : (g : ℕ) (s : Acceleration) → Signed s → Signed (urged g s)
+unfolding urged pushed
+urged-signed g s h =
+    pick-case Signed _ _ _ (λ _. h) (λ _. pick-case Signed _ _ _ (λ _. speeding-signed _) (λ _. speeding-signed _))
+
+pub acceleration-signed : (c : Car) → accelerationOf c .slows ≡ true → 1 ≤ accelerationOf c .size
+unfolding accelerationOf cruising coasting braked backedOff
+acceleration-signed c =
+    pick-case Signed _ _ _ (λ _. speeding-signed 0)
+    (λ _. pick-case Signed _ _ _ (λ _. pick-case Signed _ _ _ (λ _. speeding-signed 0) (λ _. slowing-signed _))
+    (λ _. pick-case Signed _ _ _ (λ _. speeding-signed _)
+    (λ _. pick-case Signed _ _ _ (λ _. pick-case Signed _ _ _ (λ _. slowing-signed 30) (λ _. speeding-signed 0))
+    (λ _. urged-signed _ _ (towards-signed _ _)))))
 
 -- ---- the signed numbers
 neg-le : (n k : ℕ) → k ≤ n → negℤ (pos n) ≤ℤ negℤ (pos k)

@@ -1,9 +1,9 @@
 -- Little-endian words: document 01, "The cab, alike, and the program".
 -- Assumes nothing.
-use Prim.Native.Nat.{ℕ, _+_, _*_}
-use mathlib.Core.List.{List}
+use Prim.Native.Nat.{ℕ, zero, suc, _+_, _*_, _/_, min}
+use mathlib.Core.List.{List, [], _∷_, _++_}
 use lib.Dec.{ltb}
-use lib.ListN.{length, getD}
+use lib.ListN.{length, getD, take, drop}
 use Rattle.kit.specs.Pick.{pick}
 
 -- four bytes, the lowest first
@@ -15,3 +15,19 @@ unfoldable pub wordAt : List ℕ → ℕ → ℕ
 wordAt bs i =
     pick (ltb (length bs) (i + 4)) 0
     (joined (getD bs i 0) (getD bs (i + 1) 0) (getD bs (i + 2) 0) (getD bs (i + 3) 0))
+
+-- so many words, the first at an index
+unfoldable pub wordsFrom : List ℕ → ℕ → ℕ → List ℕ
+wordsFrom bs i zero = []
+wordsFrom bs i (suc n) = wordAt bs i ∷ wordsFrom bs (i + 4) n
+
+-- the whole words of the bytes
+unfoldable pub wordsOf : List ℕ → List ℕ
+wordsOf bs = wordsFrom bs 0 (length bs / 4)
+
+-- how many of them fit, and the slice with those in front: the rest of it is kept
+unfoldable pub wordsCount : List ℕ → List ℕ → ℕ
+wordsCount bs words = min (length bs / 4) (length words)
+
+unfoldable pub wordsAfter : List ℕ → List ℕ → List ℕ
+wordsAfter bs words = take (wordsCount bs words) (wordsOf bs) ++ drop (wordsCount bs words) words

@@ -1,0 +1,4 @@
+pub mod Answers
+pub mod Going
+pub mod Groups
+pub mod Putting

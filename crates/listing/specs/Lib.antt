@@ -1,0 +1,3 @@
+pub mod Listing
+pub mod ListingLaws
+pub mod Put
