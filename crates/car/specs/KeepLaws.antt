@@ -187,9 +187,9 @@ module _ (c : Car) (g : Good c) where
         hold = g .hold;
       }
 
-  engaged-good : (d : ℕ) → 1 ≤ d → d ≤ ceilingOf (c .settings) → c .key ≡ 2 → c .pedals .brake ≡ 0 → c .levers .updown ≡ 0 → Good (engaged c d)
-  unfolding engaged withForeback withLevers withCruise
-  engaged-good d low high k b l =
+  engaged-good : (d : ℕ) → 1 ≤ d → d ≤ ceilingOf (c .settings) → c .key ≡ 2 → c .pedals .brake ≡ 0 → c .levers .updown ≡ 0 → (c .levers .foreback ≡ 2 → ⊥) → Good (engaged c d)
+  unfolding engaged withCruise
+  engaged-good d low high k b l m =
       let r = g .ranges in
       record {
         ranges = search (r .manual-low, arith);
@@ -198,9 +198,9 @@ module _ (c : Car) (g : Good c) where
         one-pedal = g .one-pedal;
         off = λ q. absurd (q k);
         one-lever = λ u. omega arith;
-        cruise-on = λ t. record { brake = b; lever = omega arith; low = low; high = high };
+        cruise-on = λ t. record { brake = b; lever = m; low = low; high = high };
         limiter-on = g .limiter-on;
-        button-in = λ t. (k, omega arith);
+        button-in = λ t. (k, m);
         not-ready = g .not-ready;
         ready = g .ready;
         tested = g .tested;
@@ -229,12 +229,12 @@ module _ (c : Car) (g : Good c) where
   unfolding engages
   engages-parts t = search (and-l, and-r, eqb-true)
 
-  forward-good : c .levers .updown ≡ 0 → Good (forward c)
+  forward-good : c .levers .updown ≡ 0 → (c .levers .foreback ≡ 2 → ⊥) → Good (forward c)
   unfolding forward
-  forward-good l =
+  forward-good l m =
       pick-case Good (engages c) _ _
-      (λ t. let p = engages-parts t in engaged-good _ (startDesired-pos (p .2)) startDesired-le (p .0) (p .1) l)
-      (λ _. foreback-good 1 (omega arith) (omega arith) l)
+      (λ t. let p = engages-parts t in engaged-good _ (startDesired-pos (p .2)) startDesired-le (p .0) (p .1) l m)
+      (λ _. g)
 
   pub cruiseOff-good : Good (cruiseOff c)
   unfolding cruiseOff withCruise withLevers
@@ -256,9 +256,9 @@ module _ (c : Car) (g : Good c) where
         hold = λ e. no (sym e);
       }
 
-  backward-good : c .levers .updown ≡ 0 → Good (backward c)
+  backward-good : (y : ℕ) → y ≤ 2 → c .levers .updown ≡ 0 → Good (backward (withForeback c y))
   unfolding backward cruiseOff withForeback withCruise withLevers withLimiter
-  backward-good l =
+  backward-good y h l =
       let r = g .ranges in
       record {
         ranges = search (r .manual-low, arith);
@@ -275,12 +275,6 @@ module _ (c : Car) (g : Good c) where
         tested = g .tested;
         hold = λ e. no (sym e);
       }
-
-  pub moved-foreback-good : (y : ℕ) → y ≤ 2 → c .levers .updown ≡ 0 → Good (foreBackMoved c y)
-  unfolding foreBackMoved
-  moved-foreback-good y h l =
-      pick-case Good (eqb y 1) _ _ (λ _. forward-good l)
-      (λ _. pick-case Good (eqb y 2) _ _ (λ _. backward-good l) (λ t. foreback-good y h (eqb-false _ _ t) l))
 
   -- ---- the pedals
   pub pedal-good : (b a : ℕ) → b ≤ 225 → a ≤ 225 → (1 ≤ b → a ≡ 0) → c .key ≡ 2 → (c .cruise .on ≡ true → b ≡ 0) → (c .limiter .on ≡ true → a ≤ 90)
@@ -439,6 +433,14 @@ module _ (c : Car) (g : Good c) where
         tested = g .tested;
         off = λ q. absurd (q k);
       })
+
+-- ---- M: forward from the car with its lever moved, which is good; backward leaves a good car too
+pub moved-foreback-good : (c : Car) → Good c → (y : ℕ) → y ≤ 2 → c .levers .updown ≡ 0 → Good (foreBackMoved c y)
+unfolding foreBackMoved withForeback withLevers
+moved-foreback-good c g y h l =
+    pick-case Good (eqb y 1) _ _
+    (λ t. let e = eqb-true y 1 t in let m : (y ≡ 2 → ⊥) = omega arith in forward-good _ (foreback-good c g y h m l) l m)
+    (λ _. pick-case Good (eqb y 2) _ _ (λ _. backward-good c g y h l) (λ t. foreback-good c g y h (eqb-false _ _ t) l))
 
 -- ---- the tick
 rangeAfter-ready : (ready : Bool) (r : ℕ) → ready ≡ true → rangeAfter ready r ≡ 255 → ⊥

@@ -75,10 +75,10 @@ unfoldable pub startDesired : Car → ℕ
 startDesired c = pick (eqb (c .cruise .desired) 0) (min (ceilingOf (c .settings)) (c .speed)) (c .cruise .desired)
 
 unfoldable pub engaged : Car → ℕ → Car
-engaged c d = withCruise (withForeback c 1) (record { on = true; desired = d; manual = c .cruise .manual })
+engaged c d = withCruise c (record { on = true; desired = d; manual = c .cruise .manual })
 
 unfoldable pub forward : Car → Car
-forward c = pick (engages c) (engaged c (startDesired c)) (withForeback c 1)
+forward c = pick (engages c) (engaged c (startDesired c)) c
 
 -- cruise off, so T and B are 0
 unfoldable pub cruiseOff : Car → Car
@@ -89,11 +89,12 @@ cruiseOff c =
 
 -- "Backward: C, H, S = 0"
 unfoldable pub backward : Car → Car
-backward c =
-    withLimiter (withForeback (cruiseOff c) 2) (record { button = false; on = false; limit = c .limiter .limit })
+backward c = withLimiter (cruiseOff c) (record { button = false; on = false; limit = c .limiter .limit })
 
+-- M takes its word's value, and forward and backward do what they do
 unfoldable pub foreBackMoved : Car → ℕ → Car
-foreBackMoved c y = pick (eqb y 1) (forward c) (pick (eqb y 2) (backward c) (withForeback c y))
+foreBackMoved c y =
+    pick (eqb y 1) (forward (withForeback c y)) (pick (eqb y 2) (backward (withForeback c y)) (withForeback c y))
 
 -- ---- "Brake: above 0, C = 0"
 unfoldable pub brakePressed : Car → ℕ → Car

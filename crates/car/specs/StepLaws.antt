@@ -215,11 +215,11 @@ forebacked : (c : Car) (y : ℕ) → ForeBacked c y (foreBackMoved c y)
 unfolding foreBackMoved forward backward cruiseOff engaged withForeback withLevers withCruise withLimiter
 forebacked c y =
     pick-case (ForeBacked c y) (eqb y 1) _ _
-    (λ t. let e = sym (eqb-true y 1 t) in pick-case (ForeBacked c y) (engages c) _ _
-    (λ _. record { updown = refl; foreback = e; speed = refl; now = refl })
-    (λ _. record { updown = refl; foreback = e; speed = refl; now = refl }))
+    (λ _. pick-case (ForeBacked c y) (engages (withForeback c y)) _ _
+    (λ _. record { updown = refl; foreback = refl; speed = refl; now = refl })
+    (λ _. record { updown = refl; foreback = refl; speed = refl; now = refl }))
     (λ _. pick-case (ForeBacked c y) (eqb y 2) _ _
-    (λ t. record { updown = refl; foreback = sym (eqb-true y 2 t); speed = refl; now = refl })
+    (λ _. record { updown = refl; foreback = refl; speed = refl; now = refl })
     (λ _. record { updown = refl; foreback = refl; speed = refl; now = refl }))
 
 foreback-neighbours : (c : Car) (y : ℕ) → Good c → foreBackCheck c y ≡ 0 → Neighbours c (ForeBack y) (foreBackMoved c y)

@@ -1,6 +1,6 @@
 // The rules of the nine events beside the tick (document 01, "Rules of each event"): one method for each, the car in whole and back whole.
 ghost use mathlib.Core.Path.{_≡_};
-ghost use Rattle.car.specs.Rules.{keyRadar, keyTurned, leverDesired, manualAfter, whileHeld, upDownMoved, withForeback, engages, startDesired, engaged, forward, cruiseOff, backward, foreBackMoved, brakePressed, gasPressed, buttonPressed, gapChosen, signActs, signDesired, signAfter, signPassed, readingTaken};
+ghost use Rattle.car.specs.Rules.{keyRadar, keyTurned, leverDesired, manualAfter, whileHeld, upDownMoved, engages, startDesired, engaged, forward, cruiseOff, backward, foreBackMoved, brakePressed, gasPressed, buttonPressed, gapChosen, signActs, signDesired, signAfter, signPassed, readingTaken};
 use crate::Car;
 use crate::Cruise;
 use crate::Limiter;
@@ -136,17 +136,9 @@ impl Car {
         self.cruise.desired
     }
 
-    fn with_foreback(mut self, position: u32) -> Car
-        ensures { λ r. ⌜ r ≡ withForeback self position ⌝ }
-    {
-        self.levers.foreback = position;
-        self
-    }
-
     fn engage(mut self, desired: u32) -> Car
         ensures { λ r. ⌜ r ≡ engaged self desired ⌝ }
     {
-        self.levers.foreback = 1;
         self.cruise.on = true;
         self.cruise.desired = desired;
         self
@@ -158,13 +150,12 @@ impl Car {
         if self.engages() {
             return self.engage(self.start_desired());
         }
-        self.with_foreback(1)
+        self
     }
 
     fn backward(mut self) -> Car
         ensures { λ r. ⌜ r ≡ backward self ⌝ }
     {
-        self.levers.foreback = 2;
         self.levers.time = 0;
         self.levers.base = 0;
         self.cruise.on = false;
@@ -173,13 +164,14 @@ impl Car {
         self
     }
 
-    pub(crate) fn move_fore_back(self, position: u32) -> Car
+    pub(crate) fn move_fore_back(mut self, position: u32) -> Car
         ensures { λ r. ⌜ r ≡ foreBackMoved self position ⌝ }
     {
+        self.levers.foreback = position;
         match position {
             1 => self.forward(),
             2 => self.backward(),
-            _ => self.with_foreback(position),
+            _ => self,
         }
     }
 

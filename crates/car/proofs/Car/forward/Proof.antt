@@ -13,5 +13,4 @@ forward-spec =
     (λ c κs. search needs)
     (λ c κs. search needs)
     (λ c. search (picks, c .engage .ensures, c .before .start-desired .ensures, ← c .before .before .before .engages .ensures))
-    (λ c κs. search needs)
-    (λ c. search (picks, c .with-foreback .ensures, ← c .before .before .engages .ensures)))
+    (λ c. search (picks, ← c .before .engages .ensures)))
