@@ -1,7 +1,8 @@
 // Event words (document 01, "Event words"): a word is read into an event, and an event is written as its word.
 ghost use mathlib.Core.Path.{_≡_};
 ghost use mathlib.Core.Bool.{true};
-ghost use Rattle.event.specs.Words.{readOf, keyOnOf, judged, inRange, keyWord, radarWord, tickWord, writeOf, wordOf, permittedGap, bitOf};
+ghost use Rattle.event.specs.Words.{readOf, kindsOf, keyOnOf, judged, inRange, keyWord, radarWord, tickWord, writeOf, wordOf, permittedGap, bitOf};
+ghost use Rattle.event.specs.Named.{namedOf, malformedOf};
 
 pub mod refusal;
 
@@ -39,6 +40,45 @@ pub fn read(word: u32) -> Reading
 {
     let kind = word / KIND;
     let body = word % KIND;
+    let named = named(kind);
+    if body >= named {
+        return Reading::Refused(malformed(named));
+    }
+    read_kind(kind, body)
+}
+
+// The bodies of a kind that have no unnamed bit set are those below this; 0 for no such kind. With it one look tells checks 1 and 2.
+fn named(kind: u32) -> u32
+    ensures { λ r. ⌜ r ≡ namedOf kind ⌝ }
+{
+    match kind {
+        1 => 8,
+        2 => 8,
+        3 => 4,
+        4 => 256,
+        5 => 256,
+        6 => 8192,
+        7 => 32,
+        8 => 2048,
+        9 => 2097152,
+        10 => 2,
+        _ => 0,
+    }
+}
+
+fn malformed(named: u32) -> u32
+    ensures { λ r. ⌜ r ≡ malformedOf named ⌝ }
+{
+    if named == 0 {
+        return refusal::NO_SUCH_KIND;
+    }
+    refusal::UNNAMED_BIT
+}
+
+// The event of a kind, or its refusal.
+fn read_kind(kind: u32, body: u32) -> Reading
+    ensures { λ r. ⌜ r ≡ kindsOf kind body ⌝ }
+{
     match kind {
         1 => key_word(body),
         2 => judge(8, body, Event::UpDown(body)),

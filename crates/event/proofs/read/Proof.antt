@@ -1,18 +1,17 @@
+use mathlib.Core.Path.{sym}
+use Rattle.event.specs.Named.{malformed-kind}
+use Rattle.event.specs.Words.{readOf}
 use borrow.Author.Needs.{needs}
-use native.Mathlib.Omega.{arith}
-use Prim.Native.Nat.{_≤_, _/_}
-use Rattle.kit.specs.Pick.{kinds}
-use Rattle.event.specs.Words.{kindsOf, readOf}
 use Rattle.event.proofs.read.Statement.{statement}
 use Rattle.event.proofs.read.Tie as tie
 
 pub read-spec : {M : Type 1} → statement M
-unfolding readOf kindsOf
+unfolding readOf
 read-spec =
     tie.close
     (tie.spec
-    (λ c κs. search needs) (λ c κs. search needs) (λ c κs. search needs) (λ c κs. search needs) (λ c κs. search needs)
-    (λ c. search kinds) (λ c. search kinds) (λ c. search kinds)
-    (λ c. search (kinds, c .before .match .keys4))
-    (λ c. let h : 4 ≤ c .before .before .before .before .args .word / 268435456 = omega arith in search kinds)
-    (λ c. search kinds) (λ c. search kinds))
+    (λ c κs. search needs)
+    (λ c κs. search needs)
+    (λ c. let n = c .before .before .named .ensures in rw (c .malformed .ensures, n) (sym (malformed-kind _ _ (rw n at (c .before .if1 .taken)))))
+    (λ c κs. search needs)
+    (λ c. c .read-kind .ensures))
