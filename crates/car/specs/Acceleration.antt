@@ -76,3 +76,7 @@ accelerationOf c =
 -- "a×36÷10", a second's change of v
 unfoldable pub change : Acceleration → Acceleration
 change a = record { slows = a .slows; size = a .size * 36 / 10 }
+
+-- "a + 60", as an answer word holds it
+unfoldable pub accelerationCode : Acceleration → ℕ
+accelerationCode a = pick (a .slows) (60 - a .size) (60 + a .size)

@@ -37,7 +37,7 @@ backedOff-small : (v : ℕ) → Small (backedOff v)
 unfolding backedOff speeding slowing
 backedOff-small v = pick-case Small _ _ _ (λ _. omega arith) (λ _. omega arith)
 
-towards-small : (v x : ℕ) → Small (towards v x)
+pub towards-small : (v x : ℕ) → Small (towards v x)
 unfolding towards speeding slowing eased
 towards-small v x =
     pick-case Small _ _ _ (λ _. omega arith) (λ _. pick-case Small _ _ _ (λ _. omega arith) (λ _. omega arith))

@@ -1,23 +1,18 @@
 -- A lesson: document 01, "A lesson", and refusals 18 and 19.
 -- Assumes nothing.
 use mathlib.Core.List.{List, [], _∷_, _++_}
-use Prim.Native.Nat.{ℕ, _+_, _-_, _*_}
+use Prim.Native.Nat.{ℕ, _+_, _*_}
 use lib.Dec.{eqb, ltb}
 use lib.ListN.{length, drop}
 use Rattle.kit.specs.Pick.{pick}
 use Rattle.event.specs.Words.{bitOf}
 use Rattle.car.specs.declared.Car.{Car}
-use Rattle.car.specs.declared.acceleration.Acceleration.{Acceleration}
 use Rattle.car.specs.declared.drive.Driven.{Driven}
 use Rattle.car.specs.declared.lesson.Taught.{Taught}
-use Rattle.car.specs.Acceleration.{accelerationOf}
+use Rattle.car.specs.Acceleration.{accelerationOf, accelerationCode}
 use Rattle.car.specs.Distance.{visual, acoustic}
 use Rattle.car.specs.Drive.{stepOf}
 use Rattle.car.specs.Good.{goodOf}
-
--- "a + 60"
-unfoldable pub accelerationCode : Acceleration → ℕ
-accelerationCode a = pick (a .slows) (60 - a .size) (60 + a .size)
 
 -- "kind 12, bits 0-4 refusal or 0, 5 visual, 6 acoustic, 7-13 a + 60, 14-24 D, the rest 0"
 unfoldable pub answerWord : ℕ → ℕ → ℕ → ℕ → ℕ → ℕ
@@ -28,6 +23,14 @@ answerWord refusal visual acoustic acceleration desired =
 unfoldable pub answerOf : Driven → ℕ
 answerOf d =
     answerWord (d .refusal) (bitOf (visual (d .car))) (bitOf (acoustic (d .car))) (accelerationCode (accelerationOf (d .car))) (d .car .cruise .desired)
+
+-- the answer word of an accepted word that gave this car
+unfoldable pub acceptedAnswer : Car → ℕ
+acceptedAnswer c = answerOf (record { refusal = 0; car = c })
+
+-- its bits "5 visual, 6 acoustic"
+unfoldable pub warningBits : Car → ℕ
+warningBits c = 32 * bitOf (visual c) + 64 * bitOf (acoustic c)
 
 -- ---- words driven one after the other, by the checks 1 to 16 and the rules alone: the last car, the answers, the counts
 unfoldable pub driven : Car → List ℕ → Car

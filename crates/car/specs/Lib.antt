@@ -6,6 +6,8 @@ pub mod Good
 pub mod Standing
 pub mod GoodLaws
 pub mod AccelerationLaws
+pub mod Code
+pub mod CodeLaws
 pub mod DistanceLaws
 pub mod Figures
 pub mod FiguresTable

@@ -1,10 +1,13 @@
-// The acceleration a (document 01, "Rules of each event"), in tenths of m/s².
+// The acceleration a (document 01, "Rules of each event"), in tenths of m/s². The code works with its code a + 60, the form that an
+// answer word has: one number without a sign.
 ghost use mathlib.Core.Path.{_≡_};
-ghost use Prim.Native.Nat.{_≤_};
-ghost use Rattle.car.specs.Acceleration.{speeding, slowing, brakeTerm, gasTerm, braked, coasting, backedOff, eased, towards, pushed, urged, target, cruising, accelerationOf};
+ghost use Prim.Native.Nat.{_+_, _-_, _≤_, min};
+ghost use Rattle.car.specs.Acceleration.{speeding, slowing, brakeTerm, gasTerm, braked, backedOff, eased, towards, target, accelerationOf, accelerationCode};
+ghost use Rattle.car.specs.Code.{decoded, strived, urgedCode};
 ghost use Rattle.car.specs.Standing.{Ranges};
 use crate::Car;
 use crate::number::least;
+use crate::number::less;
 use crate::number::most;
 
 // A signed number as its sign and size; 0 does not slow.
@@ -13,22 +16,27 @@ pub struct Acceleration {
     pub size: u32,
 }
 
-fn speeding(size: u32) -> Acceleration
-    ensures { λ r. ⌜ r ≡ speeding size ⌝ }
+fn decoded(code: u32) -> Acceleration
+    ensures { λ r. ⌜ r ≡ decoded code ⌝ }
 {
     Acceleration {
-        slows: false,
-        size: size,
+        slows: code < 60,
+        size: apart(60, code),
     }
 }
 
-fn slowing(size: u32) -> Acceleration
-    ensures { λ r. ⌜ r ≡ slowing size ⌝ }
+fn speeding(size: u32) -> u32
+    requires { ⌜ size ≤ 60 ⌝ }
+    ensures { λ r. ⌜ r ≡ accelerationCode (speeding size) ⌝ }
 {
-    Acceleration {
-        slows: 0 < size,
-        size: size,
-    }
+    60 + size
+}
+
+fn slowing(size: u32) -> u32
+    requires { ⌜ size ≤ 60 ⌝ }
+    ensures { λ r. ⌜ r ≡ accelerationCode (slowing size) ⌝ }
+{
+    60 - size
 }
 
 fn brake_term(brake: u32) -> u32
@@ -45,9 +53,9 @@ fn gas_term(gas: u32) -> u32
     gas * 10 / 375
 }
 
-fn braked(brake: u32, speed: u32) -> Acceleration
+fn braked(brake: u32, speed: u32) -> u32
     requires { ⌜ brake ≤ 225 ⌝ }
-    ensures { λ r. ⌜ r ≡ braked brake speed ⌝ }
+    ensures { λ r. ⌜ r ≡ accelerationCode (braked brake speed) ⌝ }
 {
     if speed == 0 {
         return speeding(0);
@@ -55,15 +63,14 @@ fn braked(brake: u32, speed: u32) -> Acceleration
     slowing(brake_term(brake))
 }
 
-fn coasting(gas: u32) -> Acceleration
-    requires { ⌜ gas ≤ 225 ⌝ }
-    ensures { λ r. ⌜ r ≡ coasting gas ⌝ }
+fn coasting(term: u32) -> u32
+    ensures { λ r. ⌜ r ≡ accelerationCode (speeding (min 30 term)) ⌝ }
 {
-    speeding(least(30, gas_term(gas)))
+    speeding(least(30, term))
 }
 
-fn backed_off(speed: u32) -> Acceleration
-    ensures { λ r. ⌜ r ≡ backedOff speed ⌝ }
+fn backed_off(speed: u32) -> u32
+    ensures { λ r. ⌜ r ≡ accelerationCode (backedOff speed) ⌝ }
 {
     if speed > 0 {
         return slowing(30);
@@ -71,44 +78,42 @@ fn backed_off(speed: u32) -> Acceleration
     speeding(0)
 }
 
-// A tenth of a difference of speeds in m/s: at least 1 and at most top.
-fn eased(top: u32, difference: u32) -> u32
+// How far two numbers are apart.
+fn apart(a: u32, b: u32) -> u32
+    ensures { λ r. ⌜ r ≡ (a - b) + (b - a) ⌝ }
+{
+    if a < b { b - a } else { a - b }
+}
+
+// A tenth of a difference of speeds in m/s, at least 1.
+fn strived(difference: u32) -> u32
     requires { ⌜ difference ≤ 5000 ⌝ }
-    ensures { λ r. ⌜ r ≡ eased top difference ⌝ }
+    ensures { λ r. ⌜ r ≡ strived difference ⌝ }
 {
-    least(top, most(1, difference * 10 / 36))
+    most(1, difference * 10 / 36)
 }
 
-fn towards(speed: u32, target: u32) -> Acceleration
+fn towards(speed: u32, target: u32) -> u32
     requires { ⌜ (speed ≤ 5000) × (target ≤ 5000) ⌝ }
-    ensures { λ r. ⌜ r ≡ towards speed target ⌝ }
+    ensures { λ r. ⌜ r ≡ accelerationCode (towards speed target) ⌝ }
 {
+    if speed == target {
+        return speeding(0);
+    }
+    let strived = strived(apart(speed, target));
     if speed < target {
-        return speeding(eased(10, target - speed));
+        return speeding(least(10, strived));
     }
-    if target < speed {
-        return slowing(eased(30, speed - target));
-    }
-    speeding(0)
+    slowing(least(30, strived))
 }
 
-fn pushed(term: u32, s: Acceleration) -> Acceleration
-    ensures { λ r. ⌜ r ≡ pushed term s ⌝ }
-{
-    if s.slows {
-        return speeding(least(30, term));
-    }
-    speeding(least(30, most(term, s.size)))
-}
-
-fn urged(gas: u32, s: Acceleration) -> Acceleration
-    requires { ⌜ gas ≤ 225 ⌝ }
-    ensures { λ r. ⌜ r ≡ urged gas s ⌝ }
+fn urged(gas: u32, term: u32, s: u32) -> u32
+    ensures { λ r. ⌜ r ≡ urgedCode gas term s ⌝ }
 {
     if gas == 0 {
         return s;
     }
-    pushed(gas_term(gas), s)
+    60 + least(30, most(term, less(s, 60)))
 }
 
 impl Car {
@@ -122,16 +127,21 @@ impl Car {
         self.cruise.desired
     }
 
-    fn cruising(self) -> Acceleration
+    fn cruising(self, term: u32) -> u32
         requires { ⌜ Ranges self ⌝ }
-        ensures { λ r. ⌜ r ≡ cruising self ⌝ }
+        ensures { λ r. ⌜ r ≡ urgedCode (self .pedals .gas) term (accelerationCode (towards (self .speed) (target self))) ⌝ }
     {
-        urged(self.pedals.gas, towards(self.speed, self.target_speed()))
+        urged(
+            self.pedals.gas,
+            term,
+            towards(self.speed, self.target_speed()),
+        )
     }
 
-    pub(crate) fn acceleration(self) -> Acceleration
+    // a + 60
+    pub(crate) fn acceleration_code(self) -> u32
         requires { ⌜ Ranges self ⌝ }
-        ensures { λ r. ⌜ r ≡ accelerationOf self ⌝ }
+        ensures { λ r. ⌜ r ≡ accelerationCode (accelerationOf self) ⌝ }
     {
         if self.key != 2 {
             return speeding(0);
@@ -139,12 +149,20 @@ impl Car {
         if self.pedals.brake > 0 {
             return braked(self.pedals.brake, self.speed);
         }
+        let term = gas_term(self.pedals.gas);
         if !self.cruise.on {
-            return coasting(self.pedals.gas);
+            return coasting(term);
         }
         if self.close() {
             return backed_off(self.speed);
         }
-        self.cruising()
+        self.cruising(term)
+    }
+
+    pub(crate) fn acceleration(self) -> Acceleration
+        requires { ⌜ Ranges self ⌝ }
+        ensures { λ r. ⌜ r ≡ accelerationOf self ⌝ }
+    {
+        decoded(self.acceleration_code())
     }
 }

@@ -2,6 +2,7 @@
 ghost use mathlib.Core.Path.{_≡_};
 ghost use Prim.Native.Nat.{_≤_};
 ghost use Rattle.car.specs.Distance.{metres, secureDistance, ahead, within, close, visual, acoustic};
+ghost use Rattle.car.specs.DistanceLaws.{following};
 ghost use Rattle.car.specs.Standing.{Ranges};
 use crate::Car;
 
@@ -14,21 +15,28 @@ fn metres(tenths: u32, speed: u32) -> u32
 }
 
 impl Car {
+    // The tenths of a second that the secure distance lasts.
+    fn following(self) -> u32
+        ensures { λ r. ⌜ r ≡ following self ⌝ }
+    {
+        if self.radar.lead > 200 {
+            return self.gap;
+        }
+        if (self.radar.lead == 0) | (self.radar.lead < self.radar.earlier) {
+            return 25;
+        }
+        30
+    }
+
     // N
     pub(crate) fn secure_distance(self) -> u32
         requires { ⌜ Ranges self ⌝ }
         ensures { λ r. ⌜ r ≡ secureDistance self ⌝ }
     {
-        if self.radar.lead > 200 {
-            return metres(self.gap, self.speed);
-        }
         if (self.radar.lead == 0) & (self.speed == 0) {
             return 2;
         }
-        if (self.radar.lead == 0) | (self.radar.lead < self.radar.earlier) {
-            return metres(25, self.speed);
-        }
-        metres(30, self.speed)
+        metres(self.following(), self.speed)
     }
 
     pub(crate) fn ahead(self) -> bool
@@ -51,6 +59,9 @@ impl Car {
         requires { ⌜ Ranges self ⌝ }
         ensures { λ r. ⌜ r ≡ close self ⌝ }
     {
+        if !self.ahead() {
+            return false;
+        }
         self.within(self.secure_distance())
     }
 

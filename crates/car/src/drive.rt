@@ -1,6 +1,7 @@
 // One event word driven.
 ghost use mathlib.Core.Path.{_≡_};
 ghost use Rattle.event.specs.declared.Event.{Event};
+ghost use Rattle.car.specs.Acceleration.{accelerationOf, accelerationCode};
 ghost use Rattle.car.specs.Drive.{eventNext, takenOf, stepOf, driveOf};
 ghost use Rattle.car.specs.Standing.{Ranges};
 use crate::Car;
@@ -15,9 +16,9 @@ pub struct Driven {
 }
 
 impl Car {
-    // The next car by the event's rule.
-    fn next(self, event: Event) -> Car
-        requires { ⌜ Ranges self ⌝ }
+    // The next car by the event's rule. Here and below the code is that of the car's acceleration.
+    fn next(self, code: u32, event: Event) -> Car
+        requires { ⌜ Ranges self × (code ≡ accelerationCode (accelerationOf self)) ⌝ }
         ensures { λ r. ⌜ r ≡ eventNext self event ⌝ }
     {
         match event {
@@ -30,13 +31,13 @@ impl Car {
             Event::Gap(tenths) => self.choose_gap(tenths),
             Event::Sign(sign) => self.pass_sign(sign),
             Event::Radar { range, speed } => self.take_reading(range, speed),
-            Event::Tick { ready } => self.tick(ready),
+            Event::Tick { ready } => self.tick(code, ready),
         }
     }
 
     // An event that was read.
-    fn take(self, event: Event) -> Driven
-        requires { ⌜ Ranges self ⌝ }
+    fn take(self, code: u32, event: Event) -> Driven
+        requires { ⌜ Ranges self × (code ≡ accelerationCode (accelerationOf self)) ⌝ }
         ensures { λ r. ⌜ r ≡ takenOf self event ⌝ }
     {
         let refusal = self.check(event);
@@ -47,18 +48,18 @@ impl Car {
             };
         }
         Driven {
-            car: self.next(event),
+            car: self.next(code, event),
             refusal: 0,
         }
     }
 
     // A word, for a car that is known to be good.
-    pub(crate) fn step(self, word: u32) -> Driven
-        requires { ⌜ Ranges self ⌝ }
+    pub(crate) fn step(self, code: u32, word: u32) -> Driven
+        requires { ⌜ Ranges self × (code ≡ accelerationCode (accelerationOf self)) ⌝ }
         ensures { λ r. ⌜ r ≡ stepOf self word ⌝ }
     {
         match event::read(word) {
-            Reading::Read(event) => self.take(event),
+            Reading::Read(event) => self.take(code, event),
             Reading::Refused(n) => Driven {
                 car: self,
                 refusal: n,
@@ -71,7 +72,7 @@ impl Car {
         ensures { λ r. ⌜ r ≡ driveOf self word ⌝ }
     {
         if self.good() {
-            return self.step(word);
+            return self.step(self.acceleration_code(), word);
         }
         Driven {
             car: self,

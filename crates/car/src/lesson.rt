@@ -3,13 +3,12 @@ ghost use mathlib.Core.Bool.{true};
 ghost use mathlib.Core.List.{_++_};
 ghost use mathlib.Core.Path.{_≡_};
 ghost use lib.ListN.{drop, length};
-ghost use Prim.Native.Nat.{_≤_};
+ghost use Prim.Native.Nat.{_+_, _*_, _/_, _%_, _≤_};
+ghost use Rattle.car.specs.Acceleration.{accelerationOf, accelerationCode};
 ghost use Rattle.car.specs.Good.{goodOf};
-ghost use Rattle.car.specs.Lesson.{accelerationCode, answerWord, answerOf, answersOf, rowOf, eachOf, taughtOf, untaught, lessonOf, answersAfter, rowsAfter};
+ghost use Rattle.car.specs.Lesson.{acceptedAnswer, warningBits, answersOf, rowOf, eachOf, taughtOf, untaught, lessonOf, answersAfter, rowsAfter};
 ghost use Rattle.car.specs.Standing.{Ranges};
 use crate::Car;
-use crate::acceleration::Acceleration;
-use crate::drive::Driven;
 use event::refusal;
 
 // The car after a lesson, how many words it accepted and refused, and its own refusal, 0, 18 or 19.
@@ -20,52 +19,43 @@ pub struct Taught {
     pub refusal: u32,
 }
 
-// a + 60
-fn acceleration_code(a: Acceleration) -> u32
-    requires { ⌜ a .size ≤ 60 ⌝ }
-    ensures { λ r. ⌜ r ≡ accelerationCode a ⌝ }
+// The code of the acceleration in an answer word.
+fn code_in(answer: u32) -> u32
+    ensures { λ r. ⌜ r ≡ answer / 128 % 128 ⌝ }
 {
-    if a.slows {
-        return 60 - a.size;
-    }
-    60 + a.size
-}
-
-fn answer_word(refusal: u32, visual: u32, acoustic: u32, acceleration: u32, desired: u32) -> u32
-    requires { ⌜ (refusal ≤ 31) × (visual ≤ 1) × (acoustic ≤ 1) × (acceleration ≤ 127) × (desired ≤ 2047) ⌝ }
-    ensures { λ r. ⌜ r ≡ answerWord refusal visual acoustic acceleration desired ⌝ }
-{
-    0xC000_0000 + refusal + 32 * visual + 64 * acoustic + 128 * acceleration + 16384 * desired
-}
-
-// The answer word of a word driven.
-fn answer(driven: Driven) -> u32
-    requires { ⌜ (driven .refusal ≤ 16) × Ranges (driven .car) ⌝ }
-    ensures { λ r. ⌜ r ≡ answerOf driven ⌝ }
-{
-    let car = driven.car;
-    let visual = event::bit(car.visual());
-    let acoustic = event::bit(car.acoustic());
-    let acceleration = acceleration_code(car.acceleration());
-    answer_word(
-        driven.refusal,
-        visual,
-        acoustic,
-        acceleration,
-        car.cruise.desired,
-    )
+    answer / 128 % 128
 }
 
 // The row of a word driven: its answer word, and above it the speed.
-fn row(driven: Driven) -> u64
-    requires { ⌜ (driven .refusal ≤ 16) × Ranges (driven .car) ⌝ }
-    ensures { λ r. ⌜ r ≡ rowOf driven ⌝ }
+fn row(answer: u32, speed: u32) -> u64
+    ensures { λ r. ⌜ r ≡ answer + 4294967296 * speed ⌝ }
 {
-    let word = answer(driven);
-    word as u64 + 0x1_0000_0000 * driven.car.speed as u64
+    answer as u64 + 0x1_0000_0000 * speed as u64
 }
 
 impl Car {
+    // Bits 5 and 6 of an answer word.
+    fn warnings(self) -> u32
+        requires { ⌜ Ranges self ⌝ }
+        ensures { λ r. ⌜ r ≡ warningBits self ⌝ }
+    {
+        if !self.ahead() {
+            return 0;
+        }
+        let visual = event::bit(self.visual());
+        let acoustic = event::bit(self.acoustic());
+        32 * visual + 64 * acoustic
+    }
+
+    // The answer word of an accepted word that gave this car, by the code of its acceleration. A refused word adds its number.
+    fn answer(self, code: u32) -> u32
+        requires { ⌜ Ranges self × (code ≡ accelerationCode (accelerationOf self)) ⌝ }
+        ensures { λ r. ⌜ r ≡ acceptedAnswer self ⌝ }
+    {
+        let warnings = self.warnings();
+        0xC000_0000 + warnings + 128 * code + 16384 * self.cruise.desired
+    }
+
     fn untaught(self, refusal: u32) -> Taught
         ensures { λ r. ⌜ r ≡ untaught self refusal ⌝ }
     {
@@ -86,15 +76,17 @@ impl Car {
         let mut accepted = 0;
         let mut refused = 0;
         let mut i = 0;
+        let mut answer = car.answer(car.acceleration_code());
         while i < words.len() {
-            let driven = car.step(words[i]);
-            answers[i] = answer(driven);
+            let driven = car.step(code_in(answer), words[i]);
             if driven.refusal == 0 {
+                car = driven.car;
+                answer = car.answer(car.acceleration_code());
                 accepted += 1;
             } else {
                 refused += 1;
             }
-            car = driven.car;
+            answers[i] = answer + driven.refusal;
             i += 1;
         }
         Taught {
@@ -114,15 +106,17 @@ impl Car {
         let mut accepted = 0;
         let mut refused = 0;
         let mut i = 0;
+        let mut answer = car.answer(car.acceleration_code());
         while i < words.len() {
-            let stepped = car.step(words[i]);
-            rows[i] = row(stepped);
+            let stepped = car.step(code_in(answer), words[i]);
             if stepped.refusal == 0 {
+                car = stepped.car;
+                answer = car.answer(car.acceleration_code());
                 accepted += 1;
             } else {
                 refused += 1;
             }
-            car = stepped.car;
+            rows[i] = row(answer + stepped.refusal, car.speed);
             i += 1;
         }
         Taught {

@@ -1,12 +1,12 @@
 // The tick (document 01, "Rules of each event"): one second.
 ghost use mathlib.Core.Path.{_≡_};
 ghost use Prim.Native.Nat.{_≤_};
-ghost use Rattle.car.specs.Acceleration.{change};
-ghost use Rattle.car.specs.Rules.{testDue, rangeAfter, radarTested, radarAfter, holdDesired, tickDesired, moved, atMost, holdsDesired, tickSpeed, ticked};
+ghost use Rattle.car.specs.Acceleration.{accelerationOf, accelerationCode};
+ghost use Rattle.car.specs.Code.{movedBy};
+ghost use Rattle.car.specs.Rules.{testDue, rangeAfter, radarTested, radarAfter, holdDesired, tickDesired, atMost, holdsDesired, tickSpeed, ticked};
 ghost use Rattle.car.specs.Standing.{Ranges};
 use crate::Car;
 use crate::RangeRadar;
-use crate::acceleration::Acceleration;
 use crate::ceiling;
 use crate::lever::long_held;
 use crate::number::least;
@@ -34,15 +34,15 @@ fn tested(mut radar: RangeRadar, ready: bool, now: u32) -> RangeRadar
     radar
 }
 
-// v after a second of the acceleration.
-fn moved(speed: u32, a: Acceleration) -> u32
-    requires { ⌜ (speed ≤ 5000) × (a .size ≤ 30) ⌝ }
-    ensures { λ r. ⌜ r ≡ moved speed (change a) ⌝ }
+// v after a second of the acceleration, by its code.
+fn moved(speed: u32, code: u32) -> u32
+    requires { ⌜ (speed ≤ 5000) × (code ≤ 127) ⌝ }
+    ensures { λ r. ⌜ r ≡ movedBy speed code ⌝ }
 {
-    if a.slows {
-        return least(Car::SPEED_CEILING, less(speed, a.size * 36 / 10));
+    if code < 60 {
+        return least(Car::SPEED_CEILING, less(speed, (60 - code) * 36 / 10));
     }
-    least(Car::SPEED_CEILING, speed + a.size * 36 / 10)
+    least(Car::SPEED_CEILING, speed + (code - 60) * 36 / 10)
 }
 
 fn at_most(on: bool, most: u32, speed: u32) -> u32
@@ -106,21 +106,22 @@ impl Car {
         self.cruise.on & (self.pedals.gas == 0) & (self.speed <= desired)
     }
 
-    fn tick_speed(self, desired: u32) -> u32
-        requires { ⌜ Ranges self ⌝ }
+    // The code is that of the car's acceleration.
+    fn tick_speed(self, code: u32, desired: u32) -> u32
+        requires { ⌜ Ranges self × (code ≡ accelerationCode (accelerationOf self)) ⌝ }
         ensures { λ r. ⌜ r ≡ tickSpeed self desired ⌝ }
     {
-        let free = moved(self.speed, self.acceleration());
+        let free = moved(self.speed, code);
         let limited = at_most(self.limiter.on, self.limiter.limit, free);
         at_most(self.holds_desired(desired), desired, limited)
     }
 
-    pub(crate) fn tick(mut self, ready: bool) -> Car
-        requires { ⌜ Ranges self ⌝ }
+    pub(crate) fn tick(mut self, code: u32, ready: bool) -> Car
+        requires { ⌜ Ranges self × (code ≡ accelerationCode (accelerationOf self)) ⌝ }
         ensures { λ r. ⌜ r ≡ ticked self ready ⌝ }
     {
         let desired = self.tick_desired();
-        let speed = self.tick_speed(desired);
+        let speed = self.tick_speed(code, desired);
         let radar = self.radar_after(ready);
         self.cruise.desired = desired;
         self.speed = speed;

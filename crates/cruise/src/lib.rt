@@ -4,9 +4,8 @@ ghost use mathlib.Core.Path.{_≡_};
 ghost use Prim.Native.Nat.{_≤_};
 ghost use Rattle.car.specs.Acceleration.{signed};
 ghost use Rattle.car.specs.Car.{freshOf};
-ghost use Rattle.car.specs.Drive.{driveOf};
 ghost use Rattle.record.specs.declared.Reading.the-variants.{Loaded, Refused};
-ghost use Rattle.record.specs.Record.{readOf, savedBuffer};
+ghost use Rattle.record.specs.Record.{readOf};
 ghost use Rattle.cruise.specs.Cruise.{Left, freshLeft, driveLeft, LessonLeft, lessonSaved, lessonLeft, testOf, figuresRead, Dials, dialsOf, alikeRefusal, alikeAnswer};
 use car::Car;
 use car::Fresh;
@@ -21,25 +20,6 @@ pub extern "C" fn cruise_fresh(mode: u32, signs: u32, words: &mut [u32]) -> u32
     match Car::fresh(mode, signs) {
         Fresh::Made(car) => record::write_into(car, words),
         Fresh::Refused(n) => n,
-    }
-}
-
-// The next car's record takes the place of the car's.
-fn drive(car: Car, words: &mut [u32], word: u32) -> u32
-    ensures { λ r. ⌜ (r ≡ driveOf car word .refusal) × (now (words .exit) ≡ savedBuffer (driveOf car word .car) (now (words .entry))) ⌝ }
-{
-    let driven = car.drive(word);
-    record::write_into(driven.car, words);
-    driven.refusal
-}
-
-#[no_mangle]
-pub extern "C" fn cruise_drive(words: &mut [u32], word: u32) -> u32
-    ensures { λ r. ⌜ _≡_ {A = Left} (record { refusal = r; words = now (words .exit) }) (driveLeft (now (words .entry)) (readOf (now (words .entry))) word) ⌝ }
-{
-    match record::read_from(words) {
-        Reading::Loaded(car) => drive(car, words, word),
-        Reading::Refused(n) => n,
     }
 }
 
@@ -79,6 +59,21 @@ pub extern "C" fn cruise_lesson(
             n
         }
     }
+}
+
+// A lesson of one word. Its answer word holds the word's refusal in bits 0-4.
+#[no_mangle]
+pub extern "C" fn cruise_drive(words: &mut [u32], word: u32) -> u32
+    ensures { λ r. ⌜ _≡_ {A = Left} (record { refusal = r; words = now (words .exit) }) (driveLeft (now (words .entry)) (readOf (now (words .entry))) word) ⌝ }
+{
+    let mut answer = [0; 1];
+    let mut accepted = 0;
+    let mut refused = 0;
+    let refusal = cruise_lesson(words, &[word], &mut answer, &mut accepted, &mut refused);
+    if refusal != 0 {
+        return refusal;
+    }
+    answer[0] % 32
 }
 
 #[no_mangle]

@@ -12,12 +12,12 @@ use Rattle.event.specs.Words.{bitOf}
 use Rattle.event.specs.WordLaws.{bit-le}
 use Rattle.car.specs.declared.acceleration.Acceleration.{Acceleration}
 use Rattle.car.specs.declared.drive.Driven.{Driven}
-use Rattle.car.specs.Acceleration.{accelerationOf}
+use Rattle.car.specs.Acceleration.{accelerationOf, accelerationCode}
 use Rattle.car.specs.AccelerationLaws.{acceleration-size, acceleration-signed}
 use Rattle.car.specs.Distance.{visual, acoustic}
 use Rattle.car.specs.Figures.{shown}
 use Rattle.car.specs.GoodLaws.{ceiling-le}
-use Rattle.car.specs.Lesson.{accelerationCode, answerWord, answerOf, rowOf}
+use Rattle.car.specs.Lesson.{answerWord, answerOf, rowOf}
 use Rattle.car.specs.LessonLaws.{code-le}
 use Rattle.car.specs.Standing.{Ranges}
 use Rattle.listing.specs.Listing.{fieldOf, signedOf, warningsOf, lineOf}

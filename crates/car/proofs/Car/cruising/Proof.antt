@@ -1,11 +1,9 @@
-use Rattle.car.specs.Acceleration.{cruising}
 use Rattle.car.specs.AccelerationLaws.{target-le}
 use borrow.Author.Needs.{needs}
 use Rattle.car.proofs.Car.cruising.Statement.{statement}
 use Rattle.car.proofs.Car.cruising.Tie as tie
 
 pub cruising-spec : {M : Type 1} → statement M
-unfolding cruising
 cruising-spec =
     tie.close
     (tie.spec

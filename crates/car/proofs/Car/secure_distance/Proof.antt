@@ -1,19 +1,16 @@
-use Rattle.car.specs.Distance.{secureDistance}
-use Rattle.event.specs.WordLaws.{gap-le}
-use Rattle.kit.specs.Pick.{picks}
+use mathlib.Core.Path.{ap, _∙_}
+use Prim.Native.Nat.{ℕ}
+use Rattle.car.specs.Distance.{metres}
+use Rattle.car.specs.DistanceLaws.{following-le, secure-standing, secure-following}
 use borrow.Author.Needs.{needs}
 use Rattle.car.proofs.Car.secure_distance.Statement.{statement}
 use Rattle.car.proofs.Car.secure_distance.Tie as tie
 
 pub secure-distance-spec : {M : Type 1} → statement M
-unfolding secureDistance
 secure-distance-spec =
     tie.close
     (tie.spec
-    (λ c κs. (gap-le _ (c .before .before .pre .gap), search needs))
-    (λ c. search picks)
-    (λ c. search picks)
+    (λ c. secure-standing _ (c .if1 .taken))
     (λ c κs. search needs)
-    (λ c. search picks)
-    (λ c κs. search needs)
-    (λ c. search picks))
+    (λ c κs. (rw (c .following .ensures) (following-le _ (c .before .before .before .before .pre)), search needs))
+    (λ c. c .metres .ensures ∙ ap (λ (t : ℕ). metres t (c .before .before .before .before .before .args .self .speed)) (c .before .following .ensures) ∙ secure-following _ (c .before .before .if1 .left)))

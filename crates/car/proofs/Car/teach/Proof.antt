@@ -1,26 +1,50 @@
-use mathlib.Core.Path.{_≡_, refl, sym, ap, _∙_}
+use mathlib.Core.Path.{_≡_, ap, _∙_}
 use mathlib.Core.Logic.{⊎-elim}
-use Prim.Native.Nat.{ℕ, _≤_, _<_, _-_}
+use Prim.Native.Nat.{ℕ, _-_, _/_, _%_}
 use native.Mathlib.Omega.{arith}
 use borrow.Author.Needs.{needs}
-use borrow.Author.Tests.{eq-eqb, ne-eqb}
-use lib.ListN.{length, length-set}
+use lib.ListN.{length}
 use Rattle.car.specs.GoodLaws.{good-ranges}
-use Rattle.car.specs.Lesson.{answerOf}
-use Rattle.car.specs.LessonLaws.{refusal-le}
+use Rattle.car.specs.Lesson.{answerOf, acceptedAnswer}
+use Rattle.car.specs.LessonLaws.{answer-code}
 use Rattle.car.specs.StepLaws.{step-good}
-use Rattle.car.proofs.Going.{Going, again-at, counts-accepted, counts-refused, begins, ends}
+use Rattle.car.proofs.Going.{Going, Met, met-accepted, met-refused, met-answer, met-fits, met-next, again-met, begins, ends}
 use Rattle.car.proofs.Car.teach.Statement.{statement}
 use Rattle.car.proofs.Car.teach.Tie as tie
+use Rattle.car.proofs.Car.teach.Reads as reads
+use Rattle.car.proofs.Car.teach.Lts as lts
+use Rattle.car.proofs.Car.acceleration_code.Reads as acceleration-code-reads
+use Rattle.car.proofs.Car.answer.Reads as answer-reads
+use Rattle.car.proofs.lesson.code_in.Reads as code-in-reads
+use Rattle.car.proofs.Car.step.Reads as step-reads
 
 abbrev Inv-loop : tie.InvT-loop
-Inv-loop words answers₀ car₀ accepted₀ refused₀ i₀ answers car accepted refused i = Going answerOf words answers₀ car₀ answers car accepted refused i
+Inv-loop words answers₀ car₀ accepted₀ refused₀ i₀ answer₀ answers car accepted refused i answer =
+    Going answerOf words answers₀ car₀ answers car accepted refused i × (answer ≡ acceptedAnswer car)
 
 abbrev μ-loop : tie.MeasureT-loop
-μ-loop words answers₀ car₀ accepted₀ refused₀ i₀ answers car accepted refused i = length words - i
+μ-loop words answers₀ car₀ accepted₀ refused₀ i₀ answer₀ answers car accepted refused i answer = length words - i
+
+-- where the two ways meet
+met : (c : lts.Joined1 (acceleration-code-reads.Asked, acceleration-code-reads.Learnt, answer-reads.Asked, answer-reads.Learnt, code-in-reads.Asked, code-in-reads.Learnt, step-reads.Asked, step-reads.Learnt) reads.Pre reads.Post Inv-loop μ-loop)
+    → Met (c .before .before .before .before .before .before .loop .accepted) (c .before .before .before .before .before .before .loop .refused) (c .before .before .step .result) (c .if1 .car) (c .if1 .answer) (c .if1 .accepted) (c .if1 .refused)
+met c =
+    ⊎-elim
+    (λ w. met-accepted _ _ _ _ _ _ _ (w .0 .taken) (w .4) (w .7 ∙ w .3 .ensures) (w .5) (w .6))
+    (λ w. met-refused _ _ _ _ _ _ _ _ _ _ (c .before .before .step .ensures) (w .0 .left) (c .before .before .before .before .before .before .loop .inv .1) (w .1) (w .4) (w .2) (w .3))
+    (c .if1 .came)
+
+acceleration-code-requires : tie.Need-acceleration-code-requires Inv-loop μ-loop
+acceleration-code-requires c κs = good-ranges _ (c .before .before .pre .0)
+
+answer-requires : tie.Need-answer-requires Inv-loop μ-loop
+answer-requires c κs = (good-ranges _ (c .before .before .before .pre .0), c .acceleration-code .ensures)
 
 loop-holds : tie.Need-loop-holds Inv-loop μ-loop
-loop-holds c = begins answerOf _ _ _ (c .before .before .pre .0) (c .before .before .pre .1)
+loop-holds c = (begins answerOf _ _ _ (c .before .before .before .before .pre .0) (c .before .before .before .before .pre .1), c .answer .ensures)
+
+code-in-requires : tie.Need-code-in-requires Inv-loop μ-loop
+code-in-requires c κs = search needs
 
 mul-step : tie.Need-mul-step Inv-loop μ-loop
 mul-step c = search needs
@@ -29,43 +53,48 @@ shared-slice-read-step : tie.Need-shared-slice-read-step Inv-loop μ-loop
 shared-slice-read-step c = search needs
 
 step-requires : tie.Need-step-requires Inv-loop μ-loop
-step-requires c κs = good-ranges _ (c .before .before .loop .inv .ok)
+step-requires c κs =
+    let inv = c .before .before .before .loop .inv in
+    let r = good-ranges _ (inv .0 .ok) in
+    (r, c .before .code-in .ensures ∙ ap (λ (n : ℕ). n / 128 % 128) (inv .1) ∙ answer-code _ r)
 
-answer-requires : tie.Need-answer-requires Inv-loop μ-loop
-answer-requires c κs = let ok = c .before .before .before .loop .inv .ok in rw (c .step .ensures) (refusal-le _ _, good-ranges _ (step-good _ _ ok))
+acceleration-code-requires-2 : tie.Need-acceleration-code-requires-2 Inv-loop μ-loop
+acceleration-code-requires-2 c κs = rw (c .before .before .before .step .ensures) (good-ranges _ (step-good _ _ (c .before .before .before .before .before .before .before .loop .inv .0 .ok)))
+
+answer-requires-2 : tie.Need-answer-requires-2 Inv-loop μ-loop
+answer-requires-2 c κs = (rw (c .before .before .before .before .step .ensures) (good-ranges _ (step-good _ _ (c .before .before .before .before .before .before .before .before .loop .inv .0 .ok))), c .acceleration-code2 .ensures)
+
+add-accepted : tie.Need-add-accepted Inv-loop μ-loop
+add-accepted c = record { fits = omega (arith, mul-step (c .before .before .before .before .before .before .before) .fits, c .before .before .before .before .before .before .before .before .before .loop .inv .0 .sum) }
+
+add-refused : tie.Need-add-refused Inv-loop μ-loop
+add-refused c = record { fits = omega (arith, mul-step (c .before .before .before .before) .fits, c .before .before .before .before .before .before .loop .inv .0 .sum) }
+
+add-answers : tie.Need-add-answers Inv-loop μ-loop
+add-answers c = record { fits = met-fits (met (c .before .before)) _ _ (c .before .before .before .before .step .ensures) (c .before .before .before .before .before .before .before .before .loop .inv .0 .ok) }
 
 mul-answers : tie.Need-mul-answers Inv-loop μ-loop
-mul-answers c = search needs
+mul-answers c = mul-step (c .before .before .before .before .before .before)
 
 slice-write-answers : tie.Need-slice-write-answers Inv-loop μ-loop
 slice-write-answers c = search needs
 
-add-accepted : tie.Need-add-accepted Inv-loop μ-loop
-add-accepted c = search needs
-
-add-refused : tie.Need-add-refused Inv-loop μ-loop
-add-refused c = search needs
-
 add-i : tie.Need-add-i Inv-loop μ-loop
-add-i c = search needs
+add-i c = record { fits = omega (arith, mul-step (c .before .before .before .before .before .before) .fits) }
 
 loop-less : tie.Need-loop-less Inv-loop μ-loop
 loop-less c = search needs
 
 loop-again : tie.Need-loop-again Inv-loop μ-loop
 loop-again c =
-    let s = c .before .before .before .before .step .result in
-    let f = again-at answerOf _ _ _ _ _ _ _ _ (c .before .before .before .before .before .before .loop-test .taken) (c .before .before .before .before .before .before .before .loop .inv) (c .before .before .before .before .step .result) _ _ _ (c .before .before .before .before .step .ensures) (c .before .before .before .answer .ensures) in
-    ⊎-elim
-    (λ w. let y = counts-accepted s (w .0 .taken) in f (omega (arith, w .1, y)) (omega (arith, w .2, y)))
-    (λ w. let y = counts-refused s (w .0 .left) in f (omega (arith, w .1, y)) (omega (arith, w .2, y)))
-    (c .before .if1 .came)
+    let m = met (c .before .before) in
+    (again-met answerOf _ _ _ _ _ _ _ _ (c .before .before .before .before .before .before .before .loop-test .taken) (c .before .before .before .before .before .before .before .before .loop .inv .0) _ _ _ _ _ _ (c .before .before .before .before .step .ensures) (met-answer m) m, met-next m)
 
 same-length : tie.Need-same-length Inv-loop μ-loop
-same-length c = search (needs, c .before .loop .inv .same)
+same-length c = search (needs, c .before .loop .inv .0 .same)
 
 returns : tie.Need-returns Inv-loop μ-loop
-returns c = ends answerOf _ _ _ _ _ _ _ _ (c .loop-test .left) (c .before .loop .inv)
+returns c = ends answerOf _ _ _ _ _ _ _ _ (c .loop-test .left) (c .before .loop .inv .0)
 
 pub teach-spec : {M : Type 1} → statement M
 teach-spec =
@@ -73,15 +102,20 @@ teach-spec =
     (tie.spec
     Inv-loop
     μ-loop
+    acceleration-code-requires
+    answer-requires
     loop-holds
+    code-in-requires
     mul-step
     shared-slice-read-step
     step-requires
-    answer-requires
-    mul-answers
-    slice-write-answers
+    acceleration-code-requires-2
+    answer-requires-2
     add-accepted
     add-refused
+    add-answers
+    mul-answers
+    slice-write-answers
     add-i
     loop-less
     loop-again

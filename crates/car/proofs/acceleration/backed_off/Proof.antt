@@ -1,5 +1,6 @@
-use Rattle.car.specs.Acceleration.{backedOff}
+use mathlib.Core.Path.{ap, _∙_}
 use Rattle.kit.specs.Pick.{picks}
+use Rattle.car.specs.Acceleration.{backedOff, accelerationCode}
 use borrow.Author.Needs.{needs}
 use Rattle.car.proofs.acceleration.backed_off.Statement.{statement}
 use Rattle.car.proofs.acceleration.backed_off.Tie as tie
@@ -10,6 +11,6 @@ backed-off-spec =
     tie.close
     (tie.spec
     (λ c κs. search needs)
-    (λ c. search picks)
+    (λ c. c .slowing .ensures ∙ ap accelerationCode (search picks))
     (λ c κs. search needs)
-    (λ c. search picks))
+    (λ c. c .speeding .ensures ∙ ap accelerationCode (search picks)))

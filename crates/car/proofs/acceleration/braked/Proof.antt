@@ -1,5 +1,8 @@
-use Rattle.car.specs.Acceleration.{braked}
+use mathlib.Core.Path.{ap, _∙_}
+use native.Mathlib.Omega.{arith}
 use Rattle.kit.specs.Pick.{picks}
+use Rattle.car.specs.Acceleration.{braked, accelerationCode}
+use Rattle.car.specs.AccelerationLaws.{brakeTerm-le}
 use borrow.Author.Needs.{needs}
 use Rattle.car.proofs.acceleration.braked.Statement.{statement}
 use Rattle.car.proofs.acceleration.braked.Tie as tie
@@ -10,7 +13,7 @@ braked-spec =
     tie.close
     (tie.spec
     (λ c κs. search needs)
-    (λ c. search picks)
+    (λ c. c .speeding .ensures ∙ ap accelerationCode (search picks))
     (λ c κs. search needs)
-    (λ c κs. search needs)
-    (λ c. search (picks, c .slowing .ensures, c .before .brake-term .ensures)))
+    (λ c κs. omega (arith, c .brake-term .ensures, brakeTerm-le _ (c .before .before .pre)))
+    (λ c. c .slowing .ensures ∙ ap accelerationCode (search (picks, c .before .brake-term .ensures))))

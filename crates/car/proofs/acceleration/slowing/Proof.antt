@@ -1,11 +1,12 @@
-use Rattle.car.specs.Acceleration.{slowing}
-use Rattle.kit.specs.Pick.{picks}
+use mathlib.Core.Path.{sym}
+use Rattle.car.specs.CodeLaws.{code-slowing}
+use borrow.Author.Needs.{needs}
 use Rattle.car.proofs.acceleration.slowing.Statement.{statement}
 use Rattle.car.proofs.acceleration.slowing.Tie as tie
 
 pub slowing-spec : {M : Type 1} → statement M
-unfolding slowing
 slowing-spec =
     tie.close
     (tie.spec
-    (λ c. search picks))
+    (λ c. search needs)
+    (λ c. sym (code-slowing _)))

@@ -1,11 +1,12 @@
-use Rattle.car.specs.Acceleration.{speeding}
-use Rattle.kit.specs.Pick.{picks}
+use mathlib.Core.Path.{sym}
+use Rattle.car.specs.CodeLaws.{code-speeding}
+use borrow.Author.Needs.{needs}
 use Rattle.car.proofs.acceleration.speeding.Statement.{statement}
 use Rattle.car.proofs.acceleration.speeding.Tie as tie
 
 pub speeding-spec : {M : Type 1} → statement M
-unfolding speeding
 speeding-spec =
     tie.close
     (tie.spec
-    (λ c. search picks))
+    (λ c. search needs)
+    (λ c. sym (code-speeding _)))

@@ -1,15 +1,15 @@
-use Rattle.car.specs.Acceleration.{change}
-use Rattle.car.specs.Rules.{moved}
 use Rattle.kit.specs.Pick.{picks}
+use Rattle.car.specs.Code.{movedBy}
 use borrow.Author.Needs.{needs}
 use Rattle.car.proofs.tick.moved.Statement.{statement}
 use Rattle.car.proofs.tick.moved.Tie as tie
 
 pub moved-spec : {M : Type 1} → statement M
-unfolding moved change
+unfolding movedBy
 moved-spec =
     tie.close
     (tie.spec
+    (λ c. search needs)
     (λ c. search needs)
     (λ c κs. search needs)
     (λ c κs. search needs)
