@@ -1,0 +1,33 @@
+use borrow.Author.Needs.{needs}
+use mathlib.Core.Path.{_≡_}
+use lib.ListN.{length}
+use Rattle.cruise_calls.proofs.calls.Statement.{statement}
+use Rattle.cruise_calls.proofs.calls.Tie as tie
+
+abbrev Inv-loop : tie.InvT-loop
+Inv-loop most words₀ left₀ words left = length words ≡ 13
+
+abbrev μ-loop : tie.MeasureT-loop
+μ-loop most words₀ left₀ words left = left
+
+pub calls-spec : {M : Type 1} → statement M
+calls-spec =
+    tie.close
+    (tie.spec
+    Inv-loop
+    μ-loop
+    (λ c. search needs)
+    (λ c κs. search needs)
+    (λ c. search needs)
+    (λ c κs. search needs)
+    (λ c. search needs)
+    (λ c κs. search needs)
+    (λ c. search needs)
+    (λ c κs. search needs)
+    (λ c. search needs)
+    (λ c. search needs)
+    (λ c κs. search needs)
+    (λ c. search needs)
+    (λ c. search needs)
+    (λ c. search needs)
+    (λ c. search needs))
