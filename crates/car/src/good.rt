@@ -103,6 +103,9 @@ impl Car {
         requires { ⌜ Ranges self ⌝ }
         ensures { λ r. ⌜ r ≡ ruleF self ⌝ }
     {
+        if !(self.cruise.on & (self.levers.updown != 0)) {
+            return true;
+        }
         let h = less(self.now, self.levers.time);
         let d = held(
             ceiling(self.settings),
@@ -110,7 +113,7 @@ impl Car {
             self.levers.base,
             h,
         );
-        !(self.cruise.on & (self.levers.updown != 0)) | (self.cruise.desired == d)
+        self.cruise.desired == d
     }
 
     fn obeys(self) -> bool

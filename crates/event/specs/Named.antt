@@ -1,11 +1,13 @@
 -- The named bits of each kind in one table, and what one look at it tells: checks 1 and 2 together.
 -- Assumes nothing.
 use mathlib.Core.Bool.{Bool, true, false, _&&_}
+use mathlib.Core.List.{List, [], _∷_}
 use mathlib.Core.Path.{_≡_, refl, sym, subst}
-use Prim.Native.Nat.{ℕ, _≤_}
+use Prim.Native.Nat.{ℕ, zero, suc, _≤_, _<_}
 use native.Mathlib.Omega.{arith}
 use borrow.Author.Tests.{le-leb, leb-true, ltb-true, eqb-true, eqb-false}
 use lib.Dec.{eqb, leb, ltb}
+use lib.ListN.{getD}
 use Rattle.kit.specs.Pick.{pick, pick-true, and-l, and-r}
 use Rattle.event.specs.declared.Event.{Event}
 use Rattle.event.specs.declared.Reading.{Reading}
@@ -30,6 +32,27 @@ namedOf k =
 -- 1: no such kind. 2: an unnamed bit set
 unfoldable pub malformedOf : ℕ → ℕ
 malformedOf named = pick (eqb named 0) 1 2
+
+-- the same as a table over all sixteen kind numbers
+abbrev table : List ℕ
+table = 0 ∷ 8 ∷ 8 ∷ 4 ∷ 256 ∷ 256 ∷ 8192 ∷ 32 ∷ 2048 ∷ 2097152 ∷ 2 ∷ 0 ∷ 0 ∷ 0 ∷ 0 ∷ 0 ∷ []
+
+-- a test that holds of each number below n
+abbrev allBelow : ℕ → (ℕ → Bool) → Bool
+allBelow zero p = true
+allBelow (suc n) p = p n && allBelow n p
+
+all-below : (n : ℕ) (p : ℕ → Bool) → allBelow n p ≡ true → (k : ℕ) → k < n → p k ≡ true
+all-below zero p h k l = absurd (omega arith)
+all-below (suc n) p h k l = go (λ (below : k < n). all-below n p (and-r (p n) (allBelow n p) h) k below) (eqb k n) refl
+  where
+    go : (k < n → p k ≡ true) → (t : Bool) → eqb k n ≡ t → p k ≡ true
+    go rest true e = rw (eqb-true k n e) (and-l (p n) (allBelow n p) h)
+    go rest false e = rest (omega (arith, eqb-false k n e))
+
+pub named-table : (k : ℕ) → k < 16 → getD table k 0 ≡ namedOf k
+unfolding namedOf pick
+named-table k l = eqb-true (getD table k 0) (namedOf k) (all-below 16 (λ (n : ℕ). eqb (getD table n 0) (namedOf n)) refl k l)
 
 -- ---- a body at or above its kind's named bits is refused, with 1 or 2
 unnamed : (n x : ℕ) (e : Event) → n ≤ x → judged n x e ≡ Refused 2

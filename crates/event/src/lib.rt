@@ -1,5 +1,6 @@
 // Event words (document 01, "Event words"): a word is read into an event, and an event is written as its word.
 ghost use mathlib.Core.Path.{_≡_};
+ghost use Prim.Native.Nat.{_<_};
 ghost use mathlib.Core.Bool.{true};
 ghost use Rattle.event.specs.Words.{readOf, kindsOf, keyOnOf, judged, inRange, keyWord, radarWord, tickWord, writeOf, wordOf, permittedGap, bitOf};
 ghost use Rattle.event.specs.Named.{namedOf, malformedOf};
@@ -49,21 +50,28 @@ pub fn read(word: u32) -> Reading
 
 // The bodies of a kind that have no unnamed bit set are those below this; 0 for no such kind. With it one look tells checks 1 and 2.
 fn named(kind: u32) -> u32
+    requires { ⌜ kind < 16 ⌝ }
     ensures { λ r. ⌜ r ≡ namedOf kind ⌝ }
 {
-    match kind {
-        1 => 8,
-        2 => 8,
-        3 => 4,
-        4 => 256,
-        5 => 256,
-        6 => 8192,
-        7 => 32,
-        8 => 2048,
-        9 => 2097152,
-        10 => 2,
-        _ => 0,
-    }
+    let table = [
+        0,
+        8,
+        8,
+        4,
+        256,
+        256,
+        8192,
+        32,
+        2048,
+        2097152,
+        2,
+        0,
+        0,
+        0,
+        0,
+        0,
+    ];
+    table[kind as usize]
 }
 
 fn malformed(named: u32) -> u32
