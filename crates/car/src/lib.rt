@@ -1,5 +1,6 @@
 // The cruise trainer's car (document 01, "The car and a fresh one"): its parts, its settings and a fresh one.
-// A comment at each field gives the document's letter. Speeds are in tenths of km/h, times in seconds, ranges in metres.
+// A comment at each field gives the document's letter. Speeds are in tenths of km/h, times in seconds, ranges in metres. The fields'
+// order is the one of several tried of which the compiler makes the fastest lesson; nothing else rests on it.
 ghost use mathlib.Core.Path.{_≡_};
 ghost use Rattle.car.specs.Car.{freshOf, freshCar, ceilingOf};
 
@@ -39,30 +40,30 @@ pub struct Limiter {
 }
 
 pub struct Cruise {
-    pub on: bool, // C
     pub desired: u32, // D
     pub manual: u32, // E, the last desired speed set by hand
+    pub on: bool, // C
 }
 
 pub struct RangeRadar {
     pub ready: bool, // P
     pub range: u32, // R: 0 nothing ahead, 255 not ready
+    pub tested: u32, // Q, the time of the last test
     pub lead: u32, // W, the speed of the car ahead
     pub earlier: u32, // Y, the reading before it
-    pub tested: u32, // Q, the time of the last test
 }
 
 pub struct Car {
-    pub settings: Settings,
-    pub key: u32, // 0 out, 1 in, 2 on
-    pub levers: Levers,
-    pub pedals: Pedals,
-    pub limiter: Limiter,
     pub cruise: Cruise,
-    pub radar: RangeRadar,
     pub gap: u32, // G, in tenths of a second
-    pub speed: u32, // v
+    pub levers: Levers,
+    pub key: u32, // 0 out, 1 in, 2 on
     pub now: u32,
+    pub limiter: Limiter,
+    pub pedals: Pedals,
+    pub radar: RangeRadar,
+    pub settings: Settings,
+    pub speed: u32, // v
 }
 
 // A fresh car, or the refusal of its settings.

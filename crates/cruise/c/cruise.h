@@ -1,12 +1,18 @@
 /* The cruise trainer's car for C programs: libcruise.a.
 
-   A car is its record, an array of twelve words (document 01, "The record"). Every function gives the refusal's number, or 0 for none.
-   A buffer crosses as a pointer and its length in words; a missing one has length 0. What a refused call is handed stays as it was. */
+   A car is its record, an array of twelve words (document 01, "The record"). Every function gives the refusal's number, or 0 for none;
+   where two would hold, the lower one, but 18 comes before all others. A refused call leaves record and answer buffers as they were.
+   A buffer crosses as a pointer and its length in words; a missing one is any pointer, also NULL, with length 0. What a function writes
+   must not overlap with anything else that it is handed, and the pointers to single numbers must not be NULL: nothing checks that. */
 #ifndef CRUISE_H
 #define CRUISE_H
 
 #include <stddef.h>
 #include <stdint.h>
+
+#ifdef __cplusplus
+extern "C" {
+#endif
 
 /* A fresh car from its settings, mode 1 (normal cruise) or 2 (adaptive), signs 0 or 1: its record into the buffer's first twelve words;
    the words past the twelfth are kept.
@@ -14,25 +20,32 @@
 uint32_t cruise_fresh(uint32_t mode, uint32_t signs, uint32_t *record, size_t length);
 
 /* One event word: the record becomes that of the next car. A refused event changes no field.
-   18 a record not of 12 words or not accepted. 1 to 16 the event is refused. */
+   18 a record not of 12 words or not accepted, kept. 1 to 16 the event is refused. */
 uint32_t cruise_drive(uint32_t *record, size_t length, uint32_t word);
 
 /* A lesson: a run of event words, with one answer word for each. The record becomes that of the car afterwards; answer words past the
-   lesson keep their contents. Counts how many words were accepted and refused.
+   lesson keep their contents. Also the counts of accepted and refused words.
    18 a record not of 12 words or not accepted: record and answers kept, counts 0. 19 answer buffer shorter than the words: nothing runs,
    record and answers kept, counts 0. */
 uint32_t cruise_lesson(uint32_t *record, size_t length, const uint32_t *words, size_t count, uint32_t *answers, size_t room,
                        size_t *accepted, size_t *refused);
 
-/* Is this an accepted record?  18 a record not of 12 words or not accepted. */
+/* Whether a record is accepted.
+   18 a record not of 12 words or not accepted. */
 uint32_t cruise_test(const uint32_t *record, size_t length);
 
-/* The figures of a car: v and D in tenths of km/h, a in tenths of m/s2, the visual and the acoustic warning (1 or 0), and the secure
-   distance N in metres.  18 a record not of 12 words or not accepted: all figures 0. */
+/* The figures for the dials: v and D in tenths of km/h, a in tenths of m/s2, the visual and the acoustic warning (1 or 0), and the secure
+   distance N in metres.
+   18 a record not of 12 words or not accepted: every figure 0. */
 uint32_t cruise_figures(const uint32_t *record, size_t length, uint32_t *speed, uint32_t *desired, int32_t *acceleration,
                         uint32_t *visual, uint32_t *acoustic, uint32_t *distance);
 
-/* Two cars are alike (1, else 0) when key, L, M, v, D, C and S agree.  18 one of them is not an accepted record: 0. */
+/* Whether two cars are alike (1, else 0): key, L, M, v, D, C and S agree.
+   18 one of the two is a record not of 12 words or not accepted: 0. */
 uint32_t cruise_alike(const uint32_t *a, size_t a_length, const uint32_t *b, size_t b_length, uint32_t *alike);
+
+#ifdef __cplusplus
+}
+#endif
 
 #endif

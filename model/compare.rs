@@ -1,0 +1,706 @@
+//! The comparison of the library with the model, case by case. Each case grows from one 64-bit seed, so that it can
+//! be run again alone.
+
+use crate::library::{self, GUARD};
+use crate::paper::{Car, Lesson};
+use crate::random::{self, Driver, Random, FIELDS};
+use crate::tuned;
+use std::fmt::Write;
+
+// ---------------------------------------------------------------- Cases
+
+#[derive(Clone, Copy, PartialEq, Eq)]
+pub enum Kind {
+    Fresh,
+    Walk,
+    Lesson,
+    Damaged,
+    Cars,
+    Alike,
+    Tuned,
+}
+
+const KINDS: [(Kind, &str); 7] = [
+    (Kind::Fresh, "fresh"),
+    (Kind::Walk, "walk"),
+    (Kind::Lesson, "lesson"),
+    (Kind::Damaged, "damaged"),
+    (Kind::Cars, "cars"),
+    (Kind::Alike, "alike"),
+    (Kind::Tuned, "tuned"),
+];
+
+/// One round of cases; a run is many rounds.
+const ROUND: [Kind; 12] = [
+    Kind::Fresh,
+    Kind::Walk,
+    Kind::Lesson,
+    Kind::Damaged,
+    Kind::Cars,
+    Kind::Alike,
+    Kind::Tuned,
+    Kind::Walk,
+    Kind::Lesson,
+    Kind::Damaged,
+    Kind::Cars,
+    Kind::Walk,
+];
+const ROUNDS: u64 = 8_000;
+
+impl Kind {
+    pub fn named(name: &str) -> Option<Kind> {
+        KINDS.iter().find(|kind| kind.1 == name).map(|kind| kind.0)
+    }
+
+    fn name(self) -> &'static str {
+        KINDS[self as usize].1
+    }
+}
+
+/// The whole comparison: true when model and library agree everywhere.
+pub fn run(seed: u64) -> bool {
+    let mut tally = Tally::default();
+    let mut seeds = Random::new(seed);
+    for _ in 0..ROUNDS {
+        for kind in ROUND {
+            let case_seed = seeds.next();
+            if let Err(difference) = run_case(kind, case_seed, &mut tally, false) {
+                println!("DIFFERENCE after {} cases", tally.cases.iter().sum::<u64>());
+                difference.print(kind, case_seed);
+                return false;
+            }
+        }
+    }
+    tally.print(seed);
+    true
+}
+
+/// One case again, with every call shown: true when model and library agree in it.
+pub fn replay(kind: Kind, seed: u64) -> bool {
+    match run_case(kind, seed, &mut Tally::default(), true) {
+        Ok(()) => {
+            println!("no difference in case {} {seed:#018x}", kind.name());
+            true
+        }
+        Err(difference) => {
+            println!("DIFFERENCE");
+            difference.print(kind, seed);
+            false
+        }
+    }
+}
+
+fn run_case(kind: Kind, seed: u64, tally: &mut Tally, shown: bool) -> Result<(), Difference> {
+    let random = &mut Random::new(seed);
+    let bench = &mut Bench { tally, shown };
+    bench.tally.cases[kind as usize] += 1;
+    match kind {
+        Kind::Fresh => fresh_case(bench, random),
+        Kind::Walk => walk_case(bench, random),
+        Kind::Lesson => lesson_case(bench, random),
+        Kind::Damaged => damaged_case(bench, random),
+        Kind::Cars => cars_case(bench, random),
+        Kind::Alike => alike_case(bench, random),
+        Kind::Tuned => tuned_case(bench, random),
+    }
+}
+
+/// Fresh cars with all small settings and random ones, into buffers of any length.
+fn fresh_case(bench: &mut Bench, random: &mut Random) -> Result<(), Difference> {
+    for pair in 0..40 {
+        let (mode, signs) = if pair < 36 { (pair / 6, pair % 6) } else { (random.word(), random.word()) };
+        let length = random.pick(&[0, 0, 1, 5, 11, 12, 12, 13, 14, 40]);
+        let mut record = Buffer::random(random, length);
+        let car = bench.fresh(mode, signs, &mut record)?;
+        if length == 12 && car.is_some() {
+            bench.test(car, &record)?;
+            bench.figures(car, &record)?;
+        }
+    }
+    Ok(())
+}
+
+/// A long walk word by word, the record compared after each.
+fn walk_case(bench: &mut Bench, random: &mut Random) -> Result<(), Difference> {
+    let mut driver = Driver::new(random);
+    let mut car = random::good_car(random);
+    let mut record = Buffer::holding(random, &car.write());
+    for _ in 0..500 + random.below(4000) {
+        let word = driver.word(random, &car);
+        car = bench.drive(Some(car), &mut record, word)?.unwrap_or(car);
+        if random.once_in(50) {
+            bench.test(Some(car), &record)?;
+            bench.figures(Some(car), &record)?;
+        }
+    }
+    Ok(())
+}
+
+/// Lessons one after another on one record.
+fn lesson_case(bench: &mut Bench, random: &mut Random) -> Result<(), Difference> {
+    let mut driver = Driver::new(random);
+    let mut car = random::good_car(random);
+    let mut record = Buffer::holding(random, &car.write());
+    for _ in 0..6 {
+        let count = random.pick(&[0, 1, 2, 10, 100, 700, 3000]);
+        let words = random::lesson_words(random, &mut driver, car, count);
+        car = bench.lesson_anywhere(random, Some(car), &mut record, &words)?.unwrap_or(car);
+        bench.test(Some(car), &record)?;
+    }
+    Ok(())
+}
+
+/// Damaged records, of wrong lengths too, handed to every function.
+fn damaged_case(bench: &mut Bench, random: &mut Random) -> Result<(), Difference> {
+    for _ in 0..40 {
+        let words = random::damaged_record(random);
+        let car = bench.read(&words);
+        let mut record = Buffer::holding(random, &words);
+        bench.test(car, &record)?;
+        bench.figures(car, &record)?;
+        let other_car = random::good_car(random);
+        let other = Buffer::holding(random, &other_car.write());
+        bench.alike(car, &record, Some(other_car), &other)?;
+        bench.alike(Some(other_car), &other, car, &record)?;
+        bench.alike(car, &record, car, &record)?;
+        let word = any_word(random, car);
+        let car = bench.drive(car, &mut record, word)?;
+        let words: Vec<u32> = (0..random.below(5)).map(|_| any_word(random, car)).collect();
+        bench.lesson_anywhere(random, car, &mut record, &words)?;
+    }
+    Ok(())
+}
+
+/// Cars put together field by field, good and bad, with a few words and a lesson from each.
+fn cars_case(bench: &mut Bench, random: &mut Random) -> Result<(), Difference> {
+    for _ in 0..40 {
+        let mut words = random::made_car(random).write();
+        for _ in 0..random.below(3) {
+            random.pick(&FIELDS).change(random, &mut words);
+        }
+        let mut car = bench.read(&words);
+        let mut record = Buffer::holding(random, &words);
+        bench.test(car, &record)?;
+        bench.figures(car, &record)?;
+        let mut driver = Driver::new(random);
+        for _ in 0..8 {
+            let word = car.map_or(10 << 28, |car| driver.word(random, &car));
+            car = bench.drive(car, &mut record, word)?;
+            bench.test(car, &record)?;
+        }
+        let words = car.map_or(vec![10 << 28; 3], |car| random::lesson_words(random, &mut driver, car, 40));
+        car = bench.lesson_anywhere(random, car, &mut record, &words)?;
+        bench.figures(car, &record)?;
+    }
+    Ok(())
+}
+
+/// Pairs of cars that differ in one field, each field in turn, and a pair of any two.
+fn alike_case(bench: &mut Bench, random: &mut Random) -> Result<(), Difference> {
+    let car = random::good_car(random);
+    let record = Buffer::holding(random, &car.write());
+    for field in FIELDS {
+        let mut words = car.write();
+        for _ in 0..8 {
+            words = car.write();
+            field.change(random, &mut words);
+            if words != car.write() && Car::read(&words).is_some() {
+                break;
+            }
+        }
+        bench.show(|| format!("field {} changed", field.name));
+        let other_car = bench.read(&words);
+        let other = Buffer::holding(random, &words);
+        bench.alike(Some(car), &record, other_car, &other)?;
+        bench.alike(other_car, &other, Some(car), &record)?;
+    }
+    let other_car = random::good_car(random);
+    let other = Buffer::holding(random, &other_car.write());
+    bench.alike(Some(car), &record, Some(other_car), &other)
+}
+
+/// The tuned lesson against the plain one.
+fn tuned_case(bench: &mut Bench, random: &mut Random) -> Result<(), Difference> {
+    let mut driver = Driver::new(random);
+    let mut car = random::good_car(random);
+    for _ in 0..6 {
+        let count = random.pick(&[0, 1, 10, 300, 3000]);
+        let words = random::lesson_words(random, &mut driver, car, count);
+        let mut answers = answer_buffer(random, count);
+        car = bench.tuned_lesson(car, &words, &mut answers)?;
+    }
+    Ok(())
+}
+
+/// A sensible word where there is a car to know, else noise.
+fn any_word(random: &mut Random, car: Option<Car>) -> u32 {
+    match car {
+        Some(car) if random.once_in(2) => Driver::with_noise(0).word(random, &car),
+        _ => random::noise_word(random),
+    }
+}
+
+/// A buffer for answers: shorter than the words, equal or longer.
+fn answer_buffer(random: &mut Random, count: usize) -> Buffer {
+    let room = match random.below(8) {
+        0 => random.below(count as u32 + 1) as usize,
+        1 => count.saturating_sub(1),
+        2..=4 => count,
+        _ => count + random.below(20) as usize,
+    };
+    Buffer::random(random, room)
+}
+
+// ---------------------------------------------------------------- Buffers
+
+/// Guard words on each side of a buffer.
+const MARGIN: usize = 4;
+
+/// Words lent to the library between guards, and what they should be by the model.
+struct Buffer {
+    words: Vec<u32>,
+    expected: Vec<u32>,
+    is_null: bool,
+}
+
+impl Buffer {
+    /// A buffer with these contents. An empty one is now and then a null pointer.
+    fn holding(random: &mut Random, contents: &[u32]) -> Buffer {
+        let mut words = vec![GUARD; MARGIN];
+        words.extend_from_slice(contents);
+        words.resize(contents.len() + 2 * MARGIN, GUARD);
+        Buffer { expected: words.clone(), words, is_null: contents.is_empty() && random.once_in(2) }
+    }
+
+    fn random(random: &mut Random, length: usize) -> Buffer {
+        let contents: Vec<u32> = (0..length).map(|_| random.word()).collect();
+        Buffer::holding(random, &contents)
+    }
+
+    fn length(&self) -> usize {
+        self.words.len() - 2 * MARGIN
+    }
+
+    fn lend(&self) -> Option<&[u32]> {
+        (!self.is_null).then_some(&self.words[MARGIN..MARGIN + self.length()])
+    }
+
+    fn lend_mut(&mut self) -> Option<&mut [u32]> {
+        let end = MARGIN + self.length();
+        (!self.is_null).then_some(&mut self.words[MARGIN..end])
+    }
+
+    fn expected(&self) -> &[u32] {
+        &self.expected[MARGIN..MARGIN + self.length()]
+    }
+
+    fn expected_mut(&mut self) -> &mut [u32] {
+        let end = MARGIN + self.length();
+        &mut self.expected[MARGIN..end]
+    }
+
+    /// From now on the first twelve words should be this car's record.
+    fn expect(&mut self, car: &Car) {
+        self.expected_mut()[..12].copy_from_slice(&car.write());
+    }
+
+    fn is_as_expected(&self) -> bool {
+        self.words == self.expected
+    }
+
+    fn guards_hold(&self) -> bool {
+        self.words[..MARGIN] == [GUARD; MARGIN] && self.words[MARGIN + self.length()..] == [GUARD; MARGIN]
+    }
+}
+
+fn hex(words: &[u32]) -> String {
+    words.iter().map(|word| format!("{word:08X}")).collect::<Vec<_>>().join(" ")
+}
+
+/// What is found in a buffer after a call.
+fn found(buffer: &Buffer) -> String {
+    let contents = hex(&buffer.words[MARGIN..MARGIN + buffer.length()]);
+    contents + complaint(buffer.guards_hold(), " GUARDS OVERWRITTEN")
+}
+
+/// Nothing while it holds, else the complaint.
+fn complaint(holds: bool, text: &'static str) -> &'static str {
+    if holds {
+        ""
+    } else {
+        text
+    }
+}
+
+/// A buffer as a call's input.
+fn input(words: &[u32], is_null: bool) -> String {
+    let null = if is_null { " (null)" } else { "" };
+    format!("length {}{null} {}", words.len(), hex(words))
+}
+
+/// These numbers with a guard before, between and after.
+fn between_guards<const N: usize>(numbers: &[u32]) -> [u32; N] {
+    let mut cells = [GUARD; N];
+    for (place, number) in numbers.iter().enumerate() {
+        cells[2 * place + 1] = *number;
+    }
+    cells
+}
+
+// ---------------------------------------------------------------- Calls, made on both sides
+
+/// The first place where the two sides differ.
+struct Difference {
+    call: String,
+    model: String,
+    other: String,
+}
+
+impl Difference {
+    fn print(&self, kind: Kind, seed: u64) {
+        let program = std::env::args().next().unwrap_or_default();
+        let other = if kind == Kind::Tuned { "tuned:" } else { "library:" };
+        println!("case:    {} {seed:#018x}", kind.name());
+        println!("call:    {}", self.call);
+        println!("model:   {}", self.model);
+        println!("{other:8} {}", self.other);
+        println!("replay:  {program} replay {} {seed:#018x}", kind.name());
+    }
+}
+
+/// Where calls are made and counted, and shown when a case is replayed.
+struct Bench<'a> {
+    tally: &'a mut Tally,
+    shown: bool,
+}
+
+impl Bench<'_> {
+    fn show(&self, text: impl FnOnce() -> String) {
+        if self.shown {
+            println!("{}", text());
+        }
+    }
+
+    /// Shows the call in a replay; a difference unless both sides are the same.
+    fn judge(
+        &self,
+        same: bool,
+        call: impl Fn() -> String,
+        model: impl Fn() -> String,
+        other: impl Fn() -> String,
+    ) -> Result<(), Difference> {
+        self.show(|| format!("{}\n  model gives {}", call(), model()));
+        if same {
+            Ok(())
+        } else {
+            Err(Difference { call: call(), model: model(), other: other() })
+        }
+    }
+
+    /// The model's car of a record, if it accepts it.
+    fn read(&mut self, words: &[u32]) -> Option<Car> {
+        let car = Car::read(words);
+        self.tally.records[usize::from(car.is_some())] += 1;
+        car
+    }
+
+    fn fresh(&mut self, mode: u32, signs: u32, record: &mut Buffer) -> Result<Option<Car>, Difference> {
+        let before = input(record.expected(), record.is_null);
+        let (refusal, car) = match Car::fresh(mode, signs) {
+            Err(refusal) => (refusal, None),
+            Ok(_) if record.length() < 12 => (20, None),
+            Ok(car) => (0, Some(car)),
+        };
+        if let Some(car) = car {
+            record.expect(&car);
+        }
+        let given = library::fresh(mode, signs, record.lend_mut());
+        self.tally.count(Call::Fresh, refusal);
+        self.judge(
+            given == refusal && record.is_as_expected(),
+            || format!("cruise_fresh mode {mode} signs {signs} record {before}"),
+            || format!("{refusal} record {}", hex(record.expected())),
+            || format!("{given} record {}", found(record)),
+        )?;
+        Ok(car)
+    }
+
+    /// One word for the car that the record holds, none if it is not accepted. Gives the car afterwards.
+    fn drive(&mut self, car: Option<Car>, record: &mut Buffer, word: u32) -> Result<Option<Car>, Difference> {
+        let (refusal, next) = match car.ok_or(18).and_then(|car| car.drive(word)) {
+            Ok(next) => (0, Some(next)),
+            Err(refusal) => (refusal, car),
+        };
+        if let (0, Some(next)) = (refusal, next) {
+            record.expect(&next);
+        }
+        let given = library::drive(record.lend_mut(), word);
+        self.tally.count(Call::Drive, refusal);
+        self.judge(
+            given == refusal && record.is_as_expected(),
+            || format!("cruise_drive word {word:08X} record {}", before(car, record)),
+            || format!("{refusal} record {}", hex(record.expected())),
+            || format!("{given} record {}", found(record)),
+        )?;
+        Ok(next)
+    }
+
+    /// A lesson somewhere in a longer array, with room for answers of any length. Gives the car afterwards.
+    fn lesson_anywhere(
+        &mut self,
+        random: &mut Random,
+        car: Option<Car>,
+        record: &mut Buffer,
+        words: &[u32],
+    ) -> Result<Option<Car>, Difference> {
+        let start = random.pick(&[0, 0, 1, 7]);
+        let mut all: Vec<u32> = (0..start).map(|_| random.word()).collect();
+        all.extend_from_slice(words);
+        all.extend((0..random.pick(&[0, 0, 1, 9])).map(|_| random.word()));
+        let all = Buffer::holding(random, &all);
+        let mut answers = answer_buffer(random, words.len());
+        self.lesson(car, record, &all, start, words.len(), &mut answers)
+    }
+
+    fn lesson(
+        &mut self,
+        car: Option<Car>,
+        record: &mut Buffer,
+        all: &Buffer,
+        start: usize,
+        count: usize,
+        answers: &mut Buffer,
+    ) -> Result<Option<Car>, Difference> {
+        let kept = answers.expected().to_vec();
+        let words = all.lend().map(|all| &all[start..start + count]);
+        let lesson = car.ok_or(18).and_then(|car| car.lesson(words.unwrap_or(&[]), answers.expected_mut()));
+        let (refusal, next, counts) = match lesson {
+            Ok(Lesson { car, accepted, refused }) => (0, Some(car), [accepted, refused]),
+            Err(refusal) => (refusal, car, [0, 0]),
+        };
+        if let Ok(Lesson { car, .. }) = lesson {
+            record.expect(&car);
+        }
+        let (given, out) = library::lesson(record.lend_mut(), words, answers.lend_mut());
+        let guard = GUARD as usize;
+        let same_counts = out == [guard, counts[0], guard, counts[1], guard];
+        self.tally.count(Call::Lesson, refusal);
+        if refusal == 0 {
+            self.tally.count_answers(&answers.expected()[..count]);
+        }
+        let same = given == refusal
+            && same_counts
+            && record.is_as_expected()
+            && answers.is_as_expected()
+            && all.is_as_expected();
+        let place = answers.words.iter().zip(&answers.expected).position(|(found, expected)| found != expected);
+        let part = |buffer: &[u32]| place.map_or(String::from("as expected"), |place| format!("{:08X}", buffer[place]));
+        self.judge(
+            same,
+            || {
+                format!(
+                    "cruise_lesson words {} (from {start} of the caller's) room {} record {}{}",
+                    count,
+                    kept.len(),
+                    before(car, record),
+                    lesson_place(place, words.unwrap_or(&[]), car, self.shown),
+                )
+            },
+            || {
+                format!(
+                    "{refusal} accepted {} refused {} answer {} record {}",
+                    counts[0],
+                    counts[1],
+                    part(&answers.expected),
+                    hex(record.expected()),
+                )
+            },
+            || {
+                format!(
+                    "{given} accepted {} refused {}{} answer {}{} record {}{}",
+                    out[1],
+                    out[3],
+                    complaint(out[0] == guard && out[2] == guard && out[4] == guard, " GUARDS OVERWRITTEN"),
+                    part(&answers.words),
+                    complaint(answers.guards_hold(), " GUARDS OVERWRITTEN"),
+                    found(record),
+                    complaint(all.is_as_expected(), " CALLER'S WORDS CHANGED"),
+                )
+            },
+        )?;
+        Ok(next)
+    }
+
+    fn test(&mut self, car: Option<Car>, record: &Buffer) -> Result<(), Difference> {
+        let refusal = if car.is_some() { 0 } else { 18 };
+        let given = library::test(record.lend());
+        self.tally.count(Call::Test, refusal);
+        self.judge(
+            given == refusal && record.is_as_expected(),
+            || format!("cruise_test record {}", before(car, record)),
+            || format!("{refusal}"),
+            || format!("{given} record {}", found(record)),
+        )
+    }
+
+    fn figures(&mut self, car: Option<Car>, record: &Buffer) -> Result<(), Difference> {
+        let refusal = if car.is_some() { 0 } else { 18 };
+        let expected: [u32; 13] = match car.map(|car| car.figures()) {
+            None => between_guards(&[0; 6]),
+            Some(figures) => between_guards(&[
+                figures.speed as u32,
+                figures.desired as u32,
+                figures.acceleration as u32,
+                figures.visual as u32,
+                figures.acoustic as u32,
+                figures.distance as u32,
+            ]),
+        };
+        let (given, out) = library::figures(record.lend());
+        self.tally.count(Call::Figures, refusal);
+        self.judge(
+            given == refusal && out == expected && record.is_as_expected(),
+            || format!("cruise_figures record {}", before(car, record)),
+            || format!("{refusal} {}", figure_text(&expected)),
+            || format!("{given} {} record {}", figure_text(&out), found(record)),
+        )
+    }
+
+    fn alike(
+        &mut self,
+        a: Option<Car>,
+        a_record: &Buffer,
+        b: Option<Car>,
+        b_record: &Buffer,
+    ) -> Result<(), Difference> {
+        let (refusal, alike) = match (a, b) {
+            (Some(a), Some(b)) => (0, u32::from(a.alike(&b))),
+            _ => (18, 0),
+        };
+        let (given, out) = library::alike(a_record.lend(), b_record.lend());
+        self.tally.count(Call::Alike, refusal);
+        self.tally.alike += u64::from(alike);
+        self.judge(
+            given == refusal
+                && out == between_guards(&[alike])
+                && a_record.is_as_expected()
+                && b_record.is_as_expected(),
+            || format!("cruise_alike a {}\n        b {}", before(a, a_record), before(b, b_record)),
+            || format!("{refusal} alike {alike}"),
+            || {
+                let guards = complaint(out[0] == GUARD && out[2] == GUARD, " GUARDS OVERWRITTEN");
+                format!("{given} alike {}{guards} a {} b {}", out[1], found(a_record), found(b_record))
+            },
+        )
+    }
+
+    fn tuned_lesson(&mut self, car: Car, words: &[u32], answers: &mut Buffer) -> Result<Car, Difference> {
+        let expected = car.lesson(words, answers.expected_mut());
+        let end = MARGIN + answers.length();
+        let given = tuned::lesson(&car, words, &mut answers.words[MARGIN..end]);
+        self.tally.tuned_words += words.len() as u64;
+        let place = answers.words.iter().zip(&answers.expected).position(|(found, expected)| found != expected);
+        let part = |buffer: &[u32]| place.map(|place| format!("{:08X}", buffer[place]));
+        self.judge(
+            given == expected && place.is_none(),
+            || {
+                let place = lesson_place(place, words, Some(car), self.shown);
+                format!("tuned::lesson words {} room {} {car:?}{place}", words.len(), answers.length())
+            },
+            || format!("{expected:?} answer {:?}", part(&answers.expected)),
+            || format!("{given:?} answer {:?}", part(&answers.words)),
+        )?;
+        Ok(expected.map_or(car, |lesson| lesson.car))
+    }
+}
+
+/// The record as it was before a call on this car.
+fn before(car: Option<Car>, record: &Buffer) -> String {
+    match car {
+        Some(car) => input(&car.write(), false),
+        None => input(record.expected(), record.is_null),
+    }
+}
+
+fn figure_text(cells: &[u32; 13]) -> String {
+    let [speed, desired, acceleration, visual, acoustic, distance] = [1, 3, 5, 7, 9, 11].map(|cell| cells[cell]);
+    let guards = complaint(cells.iter().step_by(2).all(|&cell| cell == GUARD), " GUARDS OVERWRITTEN");
+    format!(
+        "speed {speed} desired {desired} acceleration {} visual {visual} acoustic {acoustic} distance {distance}{guards}",
+        acceleration as i32
+    )
+}
+
+/// The first wrong answer's place in the lesson, its word and the model's car before it; in a replay all words too.
+fn lesson_place(place: Option<usize>, words: &[u32], car: Option<Car>, shown: bool) -> String {
+    let mut text = String::new();
+    if shown {
+        write!(text, "\n        words {}", hex(words)).expect("room for text");
+    }
+    let at = place.and_then(|place| place.checked_sub(MARGIN)).filter(|&at| at < words.len());
+    if let (Some(at), Some(car)) = (at, car) {
+        let car = words[..at].iter().fold(car, |car, &word| car.drive(word).unwrap_or(car));
+        write!(text, "\n        first at position {at}, word {:08X}, record there {}", words[at], hex(&car.write()))
+            .expect("room for text");
+    }
+    text
+}
+
+// ---------------------------------------------------------------- Counts
+
+#[derive(Clone, Copy)]
+enum Call {
+    Fresh,
+    Drive,
+    Lesson,
+    Test,
+    Figures,
+    Alike,
+}
+
+const CALL_NAMES: [&str; 6] = ["fresh", "drive", "lesson", "test", "figures", "alike"];
+
+#[derive(Default)]
+struct Tally {
+    cases: [u64; KINDS.len()],
+    /// Calls answered, by function and refusal.
+    calls: [[u64; 21]; CALL_NAMES.len()],
+    /// Words of lessons that ran, by refusal.
+    answers: [u64; 21],
+    /// Records that the model refused and accepted.
+    records: [u64; 2],
+    alike: u64,
+    tuned_words: u64,
+}
+
+impl Tally {
+    fn count(&mut self, call: Call, refusal: u32) {
+        self.calls[call as usize][refusal as usize] += 1;
+    }
+
+    fn count_answers(&mut self, answers: &[u32]) {
+        for answer in answers {
+            self.answers[(answer & 31) as usize] += 1;
+        }
+    }
+
+    fn print(&self, seed: u64) {
+        println!("no difference, seed {seed}");
+        for ((_, name), count) in KINDS.iter().zip(self.cases) {
+            println!("  {count:>9} cases {name}");
+        }
+        let driven: u64 = self.calls[Call::Drive as usize][..17].iter().sum();
+        let in_lessons: u64 = self.answers.iter().sum();
+        println!("  {driven:>9} words driven singly, {in_lessons} in lessons, {} in tuned lessons", self.tuned_words);
+        println!("  {:>9} records made by hand accepted, {} refused", self.records[1], self.records[0]);
+        println!("  {:>9} pairs of cars alike", self.alike);
+        print!("{:>8}", "answer");
+        CALL_NAMES.iter().for_each(|name| print!("{name:>10}"));
+        println!("{:>14}", "lesson words");
+        for refusal in 0..=20 {
+            print!("{refusal:>8}");
+            self.calls.iter().for_each(|counts| print!("{:>10}", counts[refusal]));
+            println!("{:>14}", self.answers[refusal]);
+        }
+    }
+}

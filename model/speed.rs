@@ -1,0 +1,182 @@
+//! Measurements: the library, the plain model and the tuned one over the same words, in turn, in one run.
+
+use crate::library;
+use crate::paper::Car;
+use crate::random::{self, Driver, Random};
+use crate::tuned;
+use std::hint::black_box;
+use std::time::Instant;
+
+const LESSONS: usize = 20;
+const LESSON_WORDS: usize = 50_000;
+const RUNS: usize = 15;
+
+/// 1,000,000 words in lessons, each from its own record, so that no clock ends too soon.
+struct Workload {
+    name: &'static str,
+    lessons: Vec<([u32; 12], Vec<u32>)>,
+}
+
+/// One way to do the work on one lesson; gives a number made from all it did.
+type Way = fn(&[u32; 12], &[u32], &mut [u32]) -> u32;
+
+pub fn run(start: Instant) {
+    print_first_answer(start);
+    let workloads = [
+        workload("mixed walk", mixed_walk),
+        workload("accepted walk", accepted_walk),
+        workload("ticks only", ticks_only),
+        workload("random words", random_words),
+    ];
+    println!("\nlessons of {LESSON_WORDS} words, ns per word, median of {RUNS} runs in turn");
+    print_table(&workloads, &[("library", library_lesson), ("model", model_lesson), ("tuned", tuned_lesson)]);
+    println!("\none call for each word, ns per word, median of {RUNS} runs in turn");
+    println!(
+        "library: cruise_drive; record: the model reads the record, drives, writes it; value: the model's drive alone"
+    );
+    print_table(
+        &workloads,
+        &[("library", library_drive), ("record", model_record_drive), ("value", model_value_drive)],
+    );
+}
+
+/// From the start of main to the first answer word of a lesson; the loading of the program is not in it.
+fn print_first_answer(start: Instant) {
+    let mut record = [0; 12];
+    let mut answers = [0];
+    library::fresh(2, 1, Some(&mut record));
+    library::lesson(Some(&mut record), Some(&[0x1000_0001]), Some(&mut answers));
+    let elapsed = start.elapsed();
+    println!("from the start of main to the first answer {:08X} of cruise_lesson: {elapsed:?}", answers[0]);
+}
+
+// ---------------------------------------------------------------- Workloads
+
+fn workload(name: &'static str, words: fn(&mut Random) -> (Car, Vec<u32>)) -> Workload {
+    let mut random = Random::new(7);
+    let lessons = (0..LESSONS).map(|_| words(&mut random)).map(|(car, words)| (car.write(), words)).collect();
+    Workload { name, lessons }
+}
+
+/// A sensible walk with some refusals.
+fn mixed_walk(random: &mut Random) -> (Car, Vec<u32>) {
+    let car = random::fresh_car(random);
+    let words = random::lesson_words(random, &mut Driver::with_noise(12), car, LESSON_WORDS);
+    (car, words)
+}
+
+/// The same sort of walk with refused words left out.
+fn accepted_walk(random: &mut Random) -> (Car, Vec<u32>) {
+    let start = random::fresh_car(random);
+    let (mut car, mut driver, mut words) = (start, Driver::with_noise(0), Vec::new());
+    while words.len() < LESSON_WORDS {
+        let word = driver.word(random, &car);
+        if let Ok(next) = car.drive(word) {
+            car = next;
+            words.push(word);
+        }
+    }
+    (start, words)
+}
+
+/// Mode 2, cruise on behind a car, and accepted ticks alone; the radar stays ready.
+fn ticks_only(random: &mut Random) -> (Car, Vec<u32>) {
+    let car = random::following_car(random);
+    let words = vec![0xA000_0001; LESSON_WORDS];
+    let lesson = car.lesson(&words, &mut vec![0; LESSON_WORDS]);
+    assert!(lesson.is_ok_and(|lesson| lesson.refused == 0));
+    (car, words)
+}
+
+fn random_words(random: &mut Random) -> (Car, Vec<u32>) {
+    (random::reached_car(random), (0..LESSON_WORDS).map(|_| random.word()).collect())
+}
+
+// ---------------------------------------------------------------- Ways
+
+fn library_lesson(record: &[u32; 12], words: &[u32], answers: &mut [u32]) -> u32 {
+    let mut record = *record;
+    let (refusal, counts) = library::lesson(Some(&mut record), Some(words), Some(answers));
+    refusal ^ counts[1] as u32 ^ record[10]
+}
+
+fn model_lesson(record: &[u32; 12], words: &[u32], answers: &mut [u32]) -> u32 {
+    let lesson = Car::read(record).ok_or(18).and_then(|car| car.lesson(words, answers));
+    lesson.map_or(0, |lesson| lesson.accepted as u32 ^ lesson.car.write()[10])
+}
+
+fn tuned_lesson(record: &[u32; 12], words: &[u32], answers: &mut [u32]) -> u32 {
+    let lesson = Car::read(record).ok_or(18).and_then(|car| tuned::lesson(&car, words, answers));
+    lesson.map_or(0, |lesson| lesson.accepted as u32 ^ lesson.car.write()[10])
+}
+
+fn library_drive(record: &[u32; 12], words: &[u32], _: &mut [u32]) -> u32 {
+    let mut record = *record;
+    words.iter().fold(0, |sum, &word| sum + library::drive(Some(&mut record), word)) ^ record[10]
+}
+
+/// The same job in the model: read the record, drive, write the record.
+fn model_record_drive(record: &[u32; 12], words: &[u32], _: &mut [u32]) -> u32 {
+    let mut record = *record;
+    let mut drive = |word| match Car::read(black_box(&record)).ok_or(18).and_then(|car| car.drive(word)) {
+        Ok(next) => {
+            record = next.write();
+            0
+        }
+        Err(refusal) => refusal,
+    };
+    let sum = words.iter().fold(0, |sum, &word| sum + drive(word));
+    sum ^ record[10]
+}
+
+/// The model's car carried from word to word, with no record.
+fn model_value_drive(record: &[u32; 12], words: &[u32], _: &mut [u32]) -> u32 {
+    let mut car = Car::read(record).expect("a good record");
+    let mut drive = |word| match car.drive(word) {
+        Ok(next) => {
+            car = next;
+            0
+        }
+        Err(refusal) => refusal,
+    };
+    let sum = words.iter().fold(0, |sum, &word| sum + drive(word));
+    sum ^ car.write()[10]
+}
+
+// ---------------------------------------------------------------- Measuring
+
+fn print_table(workloads: &[Workload], ways: &[(&str, Way); 3]) {
+    let [first, second, third] = ways.map(|(name, _)| name);
+    print!("{:<14}{first:>10}{second:>10}{third:>10}", "workload");
+    print!("{:>18}{:>18}", format!("{first}/{second}"), format!("{first}/{third}"));
+    println!("{:>26}", format!("{first}, M words/s"));
+    for workload in workloads {
+        let [first, second, third] = medians(workload, ways);
+        print!("{:<14}{first:>10.2}{second:>10.2}{third:>10.2}", workload.name);
+        println!("{:>18.2}{:>18.2}{:>26.1}", first / second, first / third, 1000.0 / first);
+    }
+}
+
+/// The median time of each way in ns per word, the ways taking turns; all must come to the same number.
+fn medians(workload: &Workload, ways: &[(&str, Way); 3]) -> [f64; 3] {
+    let mut answers = vec![0; LESSON_WORDS];
+    let mut times = [[0.0; RUNS]; 3];
+    for run in 0..RUNS {
+        let sums = [0, 1, 2].map(|way| {
+            let start = Instant::now();
+            let sum = once(workload, ways[way].1, &mut answers);
+            times[way][run] = start.elapsed().as_nanos() as f64 / (LESSONS * LESSON_WORDS) as f64;
+            sum
+        });
+        assert!(sums[0] == sums[1] && sums[1] == sums[2], "the ways differ: {sums:?}");
+    }
+    times.map(|mut times| {
+        times.sort_by(f64::total_cmp);
+        times[RUNS / 2]
+    })
+}
+
+fn once(workload: &Workload, way: Way, answers: &mut [u32]) -> u32 {
+    let one = |(record, words): &([u32; 12], Vec<u32>)| black_box(way(black_box(record), black_box(words), answers));
+    workload.lessons.iter().map(one).fold(0, u32::wrapping_add)
+}
