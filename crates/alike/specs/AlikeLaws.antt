@@ -1,8 +1,7 @@
 -- Alike is an equivalence: each car is alike to itself, and alikeness goes both ways and onwards.
 -- Assumes nothing.
-use mathlib.Core.Bool.{Bool, true, false, _&&_, Bool·beq}
+use mathlib.Core.Bool.{Bool, true, false, Bool·beq}
 use mathlib.Core.Path.{_≡_, refl, sym, _∙_}
-use lib.Dec.{eqb}
 use borrow.Author.Tests.{eqb-true, eq-eqb}
 use Rattle.kit.specs.Pick.{and-l, and-r, and-both}
 use Rattle.car.specs.declared.Car.{Car}

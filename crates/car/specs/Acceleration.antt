@@ -1,9 +1,9 @@
 -- The acceleration a: document 01, "Rules of each event". A signed number is held as its sign and size; ÷ drops the remainder
 -- towards zero, so it acts on the size.
 -- Assumes nothing.
-use mathlib.Core.Bool.{Bool, true, false, _&&_, _||_, not}
+use mathlib.Core.Bool.{false, not}
 use Prim.Native.Nat.{ℕ, _+_, _-_, _*_, _/_, min, max}
-use lib.Dec.{eqb, leb, ltb}
+use lib.Dec.{eqb, ltb}
 use lib.IntN.{ℤ, pos, negℤ}
 use Rattle.kit.specs.Pick.{pick}
 use Rattle.car.specs.declared.Car.{Car}

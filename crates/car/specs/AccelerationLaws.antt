@@ -12,8 +12,7 @@ use borrow.Author.Tests.{leb-true, leb-false, ltb-true}
 use Rattle.kit.specs.Pick.{pick, pick-le, pick-case}
 use Rattle.car.specs.declared.Car.{Car}
 use Rattle.car.specs.declared.acceleration.Acceleration.{Acceleration}
-use Rattle.car.specs.Acceleration.{signed, speeding, slowing, brakeTerm, gasTerm, braked, coasting, backedOff, eased, towards, pushed, urged, target, cruising, accelerationOf, change}
-use Rattle.car.specs.Distance.{ahead, close}
+use Rattle.car.specs.Acceleration.{signed, speeding, slowing, brakeTerm, braked, coasting, backedOff, eased, towards, pushed, urged, target, cruising, accelerationOf, change}
 use Rattle.car.specs.GoodLaws.{ceiling-le}
 use Rattle.car.specs.Standing.{Ranges}
 

@@ -1,8 +1,8 @@
 -- Document 01, "The car and a fresh one".
 -- Assumes nothing.
-use mathlib.Core.Bool.{Bool, true, false, _&&_, _||_, not}
+use mathlib.Core.Bool.{Bool, false, _&&_, _||_, not}
 use Prim.Native.Nat.{ℕ}
-use lib.Dec.{eqb, leb, ltb}
+use lib.Dec.{eqb, ltb}
 use Rattle.kit.specs.Pick.{pick}
 use Rattle.car.specs.declared.Settings.{Settings}
 use Rattle.car.specs.declared.Levers.{Levers}

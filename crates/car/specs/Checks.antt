@@ -1,6 +1,6 @@
 -- The checks 4 to 16: document 01, "From file, pupil, radar, clock and caller". Each definition gives the first number that holds, 0 for none.
 -- Assumes nothing.
-use mathlib.Core.Bool.{Bool, true, false, _&&_, _||_, not, Bool·beq}
+use mathlib.Core.Bool.{Bool, _&&_, _||_, not, Bool·beq}
 use Prim.Native.Nat.{ℕ}
 use lib.Dec.{eqb, leb, ltb}
 use Rattle.kit.specs.Pick.{pick}

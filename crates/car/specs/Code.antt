@@ -1,6 +1,5 @@
 -- The acceleration's code a + 60, the one number that the code of `acceleration.rt`, `tick.rt` and `lesson.rt` works with.
 -- Assumes nothing.
-use mathlib.Core.Bool.{Bool, true, false}
 use Prim.Native.Nat.{ℕ, _+_, _-_, _*_, _/_, min, max}
 use lib.Dec.{eqb, ltb}
 use Rattle.kit.specs.Pick.{pick}

@@ -1,11 +1,11 @@
 -- Laws of one word driven.
 -- Assumes nothing.
 use mathlib.Core.Path.{_≡_, refl}
-use Prim.Native.Nat.{ℕ, _≤_}
+use Prim.Native.Nat.{ℕ}
 use native.Mathlib.Omega.{arith}
 use borrow.Author.Tests.{ne-eqb}
 use lib.Dec.{eqb}
-use Rattle.kit.specs.Pick.{pick, pick-false, pick-case}
+use Rattle.kit.specs.Pick.{pick-false, pick-case}
 use Rattle.event.specs.declared.Event.{Event}
 use Rattle.event.specs.declared.Reading.the-variants.{Read, Refused}
 use Rattle.event.specs.Words.{readOf}

@@ -1,7 +1,6 @@
 -- The figures of a car, and document 01's table "Figures proved together".
 -- Assumes nothing.
-use mathlib.Core.Bool.{Bool, true, false}
-use Prim.Native.Nat.{ℕ}
+use mathlib.Core.Bool.{false}
 use Rattle.kit.specs.Pick.{pick}
 use Rattle.car.specs.declared.Car.{Car}
 use Rattle.car.specs.declared.figures.Figures.{Figures}

@@ -1,7 +1,7 @@
 -- The good-car test: document 01, "Standing rules" and "The record" ("Accepted exactly when ..."). A good car is one that an
 -- accepted record gives. `Standing` says the same as named rules, and `GoodLaws` proves the two equivalent.
 -- Assumes nothing.
-use mathlib.Core.Bool.{Bool, true, false, _&&_, _||_, not, Bool·beq}
+use mathlib.Core.Bool.{Bool, _&&_, _||_, not, Bool·beq}
 use Prim.Native.Nat.{ℕ, _+_, _-_}
 use lib.Dec.{eqb, leb, ltb}
 use Rattle.event.specs.Words.{permittedGap}

@@ -2,17 +2,16 @@
 -- Assumes nothing.
 use mathlib.Core.Bool.{Bool, true, false, _&&_, _||_, not, Bool·beq}
 use mathlib.Core.Path.{_≡_, refl, sym, _∙_}
-use mathlib.Core.Logic.{_⊎_, inl, inr}
 use Prim.Native.Nat.{ℕ, _+_, _-_, _≤_, _<_}
-use lib.Dec.{eqb, leb, ltb}
+use lib.Dec.{eqb, ltb}
 use native.Mathlib.Omega.{arith}
-use borrow.Author.Tests.{leb-true, ltb-true, eqb-true, eqb-false, le-leb, lt-ltb, eq-eqb, ne-eqb}
-use Rattle.kit.specs.Pick.{pick-case, and-l, and-r, and-both, parts, wholes, implied, or-else, not-is, or-test, implies-test, not-of-false, not-of-true}
+use borrow.Author.Tests.{leb-true, eqb-true, eqb-false, le-leb, eq-eqb, ne-eqb}
+use Rattle.kit.specs.Pick.{pick-case, and-l, and-r, and-both, implied, or-else, not-is, or-test, implies-test, not-of-false, not-of-true}
 use Rattle.event.specs.Words.{permittedGap}
 use Rattle.car.specs.declared.Car.{Car}
 use Rattle.car.specs.declared.Settings.{Settings}
 use Rattle.car.specs.declared.Fresh.{Fresh}
-use Rattle.car.specs.declared.Fresh.the-variants.{Made, Refused}
+use Rattle.car.specs.declared.Fresh.the-variants.{Made}
 use Rattle.car.specs.Car.{ceilingOf, freshCar, freshOf, check17, settingsOf}
 use Rattle.car.specs.Lever.{held}
 use Rattle.car.specs.Good.{numbersOf, rangesOf, timesOf, ruleA, ruleB, ruleC, ruleD, ruleE, ruleF, leverHeld, idleOf, offOf, cruisingOf, limitingOf, buttonOf, testedOf, obeysOf, goodOf}

@@ -1,12 +1,12 @@
 -- Every rule keeps a car good: document 01, "Standing rules" (a) to (f), as far as one car shows them, from every good car.
 -- Assumes nothing.
 use mathlib.Core.Bool.{Bool, true, false, _&&_, _||_, not, true≢false}
-use mathlib.Core.Path.{_≡_, refl, sym, _∙_, ap}
+use mathlib.Core.Path.{_≡_, refl, sym, _∙_}
 use Prim.Native.Nat.{ℕ, _+_, _-_, _≤_, _<_, min}
 use lib.Dec.{eqb, leb, ltb}
 use native.Mathlib.Omega.{arith}
 use borrow.Author.Tests.{leb-true, leb-false, ltb-true, ltb-false, eqb-true, eqb-false, eq-eqb, ne-eqb}
-use Rattle.kit.specs.Pick.{pick, pick-true, pick-false, pick-case, pick-le, le-pick, and-left, and-l, and-r, or-else, not-is, and-right, and-next, not-of-true, not-of-false}
+use Rattle.kit.specs.Pick.{pick-true, pick-false, pick-case, pick-le, le-pick, and-left, and-l, and-r, not-is, and-right, and-next, not-of-true, not-of-false}
 use Rattle.event.specs.Words.{permittedGap}
 use Rattle.car.specs.declared.Car.{Car}
 use Rattle.car.specs.declared.RangeRadar.{RangeRadar}
@@ -15,10 +15,10 @@ use Rattle.car.specs.Acceleration.{accelerationOf, speeding, change}
 use Rattle.car.specs.Car.{ceilingOf, withLevers, withPedals, withLimiter, withCruise, withRadar, withGap}
 use Rattle.car.specs.Good.{leverHeld}
 use Rattle.car.specs.GoodLaws.{ceiling-le, ceiling-low, ceiling-high}
-use Rattle.car.specs.Lever.{stepped, longHeld, held}
+use Rattle.car.specs.Lever.{held}
 use Rattle.car.specs.LeverLaws.{stepped-le, stepped-pos, longHeld-le, longHeld-pos, held-early, held-late, held-start}
-use Rattle.car.specs.Rules.{keyRadar, keyTurned, leverDesired, manualAfter, whileHeld, upDownMoved, withForeback, engages, startDesired, engaged, forward, cruiseOff, backward, foreBackMoved, brakePressed, gasPressed, buttonPressed, gapChosen, signActs, signDesired, signAfter, signPassed, readingTaken, testDue, rangeAfter, radarTested, radarAfter, holdDesired, tickDesired, moved, atMost, holdsDesired, tickSpeed, ticked}
-use Rattle.car.specs.Standing.{Ranges, Off, Cruising, Limiting, Good}
+use Rattle.car.specs.Rules.{keyRadar, keyTurned, leverDesired, manualAfter, whileHeld, upDownMoved, withForeback, engages, startDesired, engaged, forward, cruiseOff, backward, foreBackMoved, signActs, signDesired, signAfter, signPassed, readingTaken, testDue, rangeAfter, radarTested, radarAfter, holdDesired, tickDesired, moved, atMost, holdsDesired, tickSpeed, ticked}
+use Rattle.car.specs.Standing.{Off, Good}
 
 no : {A : Type 0} → true ≡ false → A
 no e = absurd (true≢false e)

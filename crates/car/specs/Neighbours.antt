@@ -3,7 +3,7 @@
 -- Assumes nothing.
 use mathlib.Core.Bool.{Bool, true, false}
 use mathlib.Core.Path.{_≡_}
-use Prim.Native.Nat.{ℕ, _+_, _≤_}
+use Prim.Native.Nat.{_+_, _≤_}
 use Rattle.event.specs.declared.Event.{Event}
 use Rattle.event.specs.declared.Event.the-variants.{Key, UpDown, ForeBack, Brake, Gas, Button, Gap, Sign, Radar, Tick}
 use Rattle.car.specs.declared.Car.{Car}

@@ -10,7 +10,6 @@ use Rattle.car.specs.declared.RangeRadar.{RangeRadar}
 use Rattle.car.specs.declared.acceleration.Acceleration.{Acceleration}
 use Rattle.car.specs.Acceleration.{accelerationOf, change}
 use Rattle.car.specs.Car.{ceilingOf, withLevers, withPedals, withLimiter, withCruise, withRadar, withGap}
-use Rattle.car.specs.Good.{leverHeld}
 use Rattle.car.specs.Lever.{stepped, longHeld}
 
 -- ---- key: "b, g, v, H, S, C, D, E, T, B, W, Y become 0; key on gives P = ready, R = 0 if ready else 255, Q = now; otherwise P = 0, R = 255, Q = 0"

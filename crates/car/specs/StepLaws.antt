@@ -1,11 +1,11 @@
 -- An accepted event keeps the standing rules, from every good car: (a) to (f) as far as one car shows them, and what neighbouring cars show.
 -- Assumes nothing.
 use mathlib.Core.Bool.{Bool, true, false, _&&_, _||_, not, true≢false}
-use mathlib.Core.Path.{_≡_, refl, sym, _∙_, ap, subst}
-use Prim.Native.Nat.{ℕ, _+_, _-_, _≤_, _<_}
+use mathlib.Core.Path.{_≡_, refl, sym, _∙_, ap}
+use Prim.Native.Nat.{ℕ, _≤_, _<_}
 use lib.Dec.{eqb, leb, ltb}
 use native.Mathlib.Omega.{arith}
-use borrow.Author.Tests.{leb-true, leb-false, ltb-true, ltb-false, eqb-true, eqb-false, eq-eqb, ne-eqb, not-false, le-leb}
+use borrow.Author.Tests.{leb-true, leb-false, ltb-false, eqb-true, eqb-false, eq-eqb, ne-eqb, not-false, le-leb}
 use Rattle.kit.specs.Pick.{pick, pick-true, pick-false, pick-case, passed, and-l, and-r, and-both, or-left, or-right}
 use Rattle.event.specs.declared.Event.{Event}
 use Rattle.event.specs.declared.Event.the-variants.{Key, UpDown, ForeBack, Brake, Gas, Button, Gap, Sign, Radar, Tick}
@@ -16,16 +16,16 @@ use Rattle.event.specs.WordLaws.{read-in-range, refused-number}
 use Rattle.car.specs.declared.Car.{Car}
 use Rattle.car.specs.declared.Levers.{Levers}
 use Rattle.car.specs.declared.drive.Driven.{Driven}
-use Rattle.car.specs.Acceleration.{accelerationOf, change}
+use Rattle.car.specs.Acceleration.{accelerationOf}
 use Rattle.car.specs.AccelerationLaws.{acceleration-size, change-size}
 use Rattle.car.specs.Car.{withLevers, withPedals, withLimiter, withCruise, withRadar, withGap}
-use Rattle.car.specs.Checks.{keyOn, keySkips, keyCheck, upDownSkips, upDownCheck, foreBackSkips, foreBackCheck, brakeCheck, gasCheck, buttonCheck, radarCheck, tickCheckAt, tickCheck, eventCheck}
-use Rattle.car.specs.Drive.{eventNext, readingCheck, checkOf, readingNext, nextOf, chosen, takenOf, stepOf, driveOf}
+use Rattle.car.specs.Checks.{keyOn, keyCheck, upDownSkips, upDownCheck, foreBackSkips, foreBackCheck, brakeCheck, gasCheck, buttonCheck, radarCheck, tickCheckAt, tickCheck, eventCheck}
+use Rattle.car.specs.Drive.{eventNext, readingCheck, checkOf, readingNext, nextOf, chosen, stepOf, driveOf}
 use Rattle.car.specs.Good.{goodOf, leverHeld}
 use Rattle.car.specs.GoodLaws.{good, good-test}
 use Rattle.car.specs.KeepLaws.{key-good, updown-good, moved-foreback-good, cruiseOff-good, pedal-good, limiter-good, gap-good, sign-good, reading-good, tick-good, tickSpeed-up, tickSpeed-down, whileHeld-held, neutral-free}
 use Rattle.car.specs.Neighbours.{isTick, isLever, Neighbours}
-use Rattle.car.specs.Rules.{keyTurned, keyRadar, leverDesired, upDownMoved, withForeback, engages, engaged, forward, cruiseOff, backward, foreBackMoved, brakePressed, gasPressed, buttonPressed, gapChosen, signPassed, readingTaken, tickSpeed, tickDesired, radarAfter, ticked}
+use Rattle.car.specs.Rules.{keyTurned, leverDesired, upDownMoved, withForeback, engages, engaged, forward, cruiseOff, backward, foreBackMoved, brakePressed, gasPressed, buttonPressed, signPassed, readingTaken, tickDesired, ticked}
 use Rattle.car.specs.Standing.{Good}
 
 -- ---- what the checks showed of an accepted event

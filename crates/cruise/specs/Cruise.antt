@@ -6,14 +6,12 @@ use mathlib.Core.List.{List}
 use Prim.Native.Nat.{ℕ}
 use lib.IntN.{ℤ}
 use Rattle.event.specs.Words.{bitOf}
-use Rattle.car.specs.declared.Car.{Car}
 use Rattle.car.specs.declared.Fresh.{Fresh}
 use Rattle.car.specs.declared.Fresh.the-variants as fresh
 use Rattle.car.specs.declared.figures.Figures.{Figures}
 use Rattle.car.specs.Acceleration.{signed}
 use Rattle.car.specs.Drive.{driveOf}
 use Rattle.car.specs.Figures.{figuresOf}
-use Rattle.car.specs.Lesson.{lessonOf, answersAfter}
 use Rattle.record.specs.declared.Reading.{Reading}
 use Rattle.record.specs.declared.Reading.the-variants.{Loaded, Refused}
 use Rattle.record.specs.Layout.{packed}
@@ -34,37 +32,6 @@ freshLeft words (fresh.Refused n) = record { refusal = n; words = words }
 unfoldable pub driveLeft : List ℕ → Reading → ℕ → Left
 driveLeft words (Loaded c) word = record { refusal = driveOf c word .refusal; words = packed (driveOf c word .car) }
 driveLeft words (Refused n) word = record { refusal = n; words = words }
-
--- all that a lesson leaves
-pub record LessonLeft : Type 0 where
-  pub refusal : ℕ
-  pub words : List ℕ
-  pub answers : List ℕ
-  pub accepted : ℕ
-  pub refused : ℕ
-
--- a lesson of a car, with the record of the car afterwards written over words
-unfoldable pub lessonSaved : Car → List ℕ → List ℕ → List ℕ → LessonLeft
-lessonSaved c words events answers =
-    record {
-      refusal = lessonOf c events answers .refusal;
-      words = savedBuffer (lessonOf c events answers .car) words;
-      answers = answersAfter c events answers;
-      accepted = lessonOf c events answers .accepted;
-      refused = lessonOf c events answers .refused;
-    }
-
--- cruise_lesson: 18, then 19
-unfoldable pub lessonLeft : List ℕ → Reading → List ℕ → List ℕ → LessonLeft
-lessonLeft words (Loaded c) events answers =
-    record {
-      refusal = lessonOf c events answers .refusal;
-      words = packed (lessonOf c events answers .car);
-      answers = answersAfter c events answers;
-      accepted = lessonOf c events answers .accepted;
-      refused = lessonOf c events answers .refused;
-    }
-lessonLeft words (Refused n) events answers = record { refusal = n; words = words; answers = answers; accepted = 0; refused = 0 }
 
 -- cruise_test
 unfoldable pub testOf : Reading → ℕ

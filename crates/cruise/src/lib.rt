@@ -6,7 +6,8 @@ ghost use Rattle.car.specs.Acceleration.{signed};
 ghost use Rattle.car.specs.Car.{freshOf};
 ghost use Rattle.record.specs.declared.Reading.the-variants.{Loaded, Refused};
 ghost use Rattle.record.specs.Record.{readOf};
-ghost use Rattle.cruise.specs.Cruise.{Left, freshLeft, driveLeft, LessonLeft, lessonSaved, lessonLeft, testOf, figuresRead, Dials, dialsOf, alikeRefusal, alikeAnswer};
+ghost use Rattle.record.specs.RecordLesson.{LessonLeft, lessonLeft};
+ghost use Rattle.cruise.specs.Cruise.{Left, freshLeft, driveLeft, testOf, figuresRead, Dials, dialsOf, alikeRefusal, alikeAnswer};
 use car::Car;
 use car::Fresh;
 use car::acceleration::Acceleration;
@@ -23,24 +24,6 @@ pub extern "C" fn cruise_fresh(mode: u32, signs: u32, words: &mut [u32]) -> u32
     }
 }
 
-// The record of the car afterwards takes the place of the car's.
-fn teach(
-    car: Car,
-    words: &mut [u32],
-    events: &[u32],
-    answers: &mut [u32],
-    accepted: &mut usize,
-    refused: &mut usize,
-) -> u32
-    ensures { λ r. ⌜ _≡_ {A = LessonLeft} (record { refusal = r; words = now (words .exit); answers = now (answers .exit); accepted = now (accepted .exit); refused = now (refused .exit) }) (lessonSaved car (now (words .entry)) (now (events .entry)) (now (answers .entry))) ⌝ }
-{
-    let taught = car.lesson(events, answers);
-    record::write_into(taught.car, words);
-    *accepted = taught.accepted;
-    *refused = taught.refused;
-    taught.refusal
-}
-
 #[no_mangle]
 pub extern "C" fn cruise_lesson(
     words: &mut [u32],
@@ -51,14 +34,10 @@ pub extern "C" fn cruise_lesson(
 ) -> u32
     ensures { λ r. ⌜ _≡_ {A = LessonLeft} (record { refusal = r; words = now (words .exit); answers = now (answers .exit); accepted = now (accepted .exit); refused = now (refused .exit) }) (lessonLeft (now (words .entry)) (readOf (now (words .entry))) (now (events .entry)) (now (answers .entry))) ⌝ }
 {
-    match record::read_from(words) {
-        Reading::Loaded(car) => teach(car, words, events, answers, accepted, refused),
-        Reading::Refused(n) => {
-            *accepted = 0;
-            *refused = 0;
-            n
-        }
-    }
+    let lesson = record::lesson(words, events, answers);
+    *accepted = lesson.accepted;
+    *refused = lesson.refused;
+    lesson.refusal
 }
 
 // A lesson of one word. Its answer word holds the word's refusal in bits 0-4.

@@ -10,7 +10,6 @@ use lib.Dec.{eqb, leb, ltb}
 use lib.ListN.{getD}
 use Rattle.kit.specs.Pick.{pick, pick-true, and-l, and-r}
 use Rattle.event.specs.declared.Event.{Event}
-use Rattle.event.specs.declared.Reading.{Reading}
 use Rattle.event.specs.declared.Reading.the-variants.{Refused}
 use Rattle.event.specs.Words.{judged, keyWord, radarWord, tickWord, keyOnOf, kindsOf}
 

@@ -1,16 +1,14 @@
 -- The line of a word's row is the line of the figures.
 -- Assumes nothing.
 use mathlib.Core.Bool.{Bool, true, false}
-use mathlib.Core.Path.{_≡_, refl, sym, ap, _∙_}
-use mathlib.Core.List.{List, _++_, _∷_}
-use Prim.Native.Nat.{ℕ, _+_, _-_, _*_, _/_, _%_, _≤_, _<_}
+use mathlib.Core.Path.{_≡_, refl}
+use Prim.Native.Nat.{ℕ, _+_, _-_, _*_, _/_, _%_, _≤_}
 use native.Mathlib.Omega.{arith}
 use borrow.Author.Tests.{lt-ltb, le-ltb}
 use lib.Dec.{ltb}
-use Rattle.kit.specs.Pick.{pick, pick-true, pick-false}
+use Rattle.kit.specs.Pick.{pick}
 use Rattle.event.specs.Words.{bitOf}
 use Rattle.event.specs.WordLaws.{bit-le}
-use Rattle.car.specs.declared.acceleration.Acceleration.{Acceleration}
 use Rattle.car.specs.declared.drive.Driven.{Driven}
 use Rattle.car.specs.Acceleration.{accelerationOf, accelerationCode}
 use Rattle.car.specs.AccelerationLaws.{acceleration-size, acceleration-signed}
@@ -20,7 +18,7 @@ use Rattle.car.specs.GoodLaws.{ceiling-le}
 use Rattle.car.specs.Lesson.{answerWord, answerOf, rowOf}
 use Rattle.car.specs.LessonLaws.{code-le}
 use Rattle.car.specs.Standing.{Ranges}
-use Rattle.listing.specs.Listing.{fieldOf, signedOf, warningsOf, lineOf}
+use Rattle.listing.specs.Listing.{signedOf, lineOf}
 use Rattle.exercise.specs.Exercise.{accelerationText, figuresLine}
 
 -- the parts of a row

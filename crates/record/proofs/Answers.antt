@@ -8,13 +8,17 @@ use lib.ListN.{length, take, drop, replicate}
 use lib.Seq.{take-all}
 use Rattle.kit.specs.Pick.{pick-true, pick-false, picks, and-both, and-left, and-right}
 use Rattle.car.specs.declared.Car.{Car}
+use Rattle.car.specs.declared.lesson.Taught.{Taught}
 use Rattle.car.specs.Good.{goodOf}
+use Rattle.car.specs.Lesson.{answersAfter, lessonOf}
 use Rattle.record.specs.declared.Reading.{Reading}
 use Rattle.record.specs.declared.Reading.the-variants.{Loaded, Refused}
 use Rattle.record.specs.Layout.{packed, unpacked}
-use Rattle.record.specs.LayoutLaws.{packed-length}
+use Rattle.record.specs.LayoutLaws.{Fits, packed-length}
 use Rattle.record.specs.Record.{sameWords, writeOf, readOf, savedRefusal, savedBuffer}
-use Rattle.record.specs.RecordLaws.{not-accepted}
+use Rattle.record.specs.RecordLaws.{same-eq, not-accepted}
+use Rattle.record.specs.RecordLesson.{LessonLeft, lessonLeft, taughtLeft}
+use Rattle.record.specs.RecordLessonLaws.{lesson-fits, left-none, left-some, left-marked, left-unread}
 
 pub write-yes : (c : Car) (p : List ℕ) → goodOf c ≡ true → p ≡ packed c → record { refusal = 0; words = p } ≡ writeOf c
 unfolding writeOf
@@ -51,6 +55,44 @@ pub save-short : (c : Car) (b : List ℕ) → goodOf c ≡ true → length b < 1
 unfolding savedRefusal savedBuffer
 save-short c b g h = (search picks, search picks)
 
-pub save-yes : (c : Car) (b p x : List ℕ) → goodOf c ≡ true → 12 ≤ length b → p ≡ packed c → x ≡ take 12 p ++ drop 12 b → (0 ≡ savedRefusal c b) × (x ≡ savedBuffer c b)
+pub save-yes : (c : Car) (b x : List ℕ) → goodOf c ≡ true → 12 ≤ length b → x ≡ packed c ++ drop 12 b → (0 ≡ savedRefusal c b) × (x ≡ savedBuffer c b)
 unfolding savedRefusal savedBuffer
-save-yes c b p x g h e f = rw (f, e, take-all 12 (packed c) (omega (arith, packed-length c))) (search picks, search picks)
+save-yes c b x g h f = rw f (search picks, search picks)
+
+pub saved : (c : Car) (b p x : List ℕ) → p ≡ packed c → x ≡ take 12 p ++ drop 12 b → x ≡ packed c ++ drop 12 b
+saved c b p x e f = rw (f, e, take-all 12 (packed c) (omega (arith, packed-length c)))
+
+-- ---- a lesson of a record's car
+module _ (c : Car) (ws events answers : List ℕ) (t : Taught) (answered : List ℕ) (e : t ≡ lessonOf c events answers) (f : answered ≡ answersAfter c events answers) where
+  pub taught-none : (r a n : ℕ) → t .refusal ≡ 18 → r ≡ 18 → a ≡ 0 → n ≡ 0
+      → _≡_ {A = LessonLeft} (record { refusal = r; words = ws; answers = answered; accepted = a; refused = n }) (taughtLeft c ws events answers)
+  taught-none r a n z er ea en = rw (er, ea, en, f) (left-none c events answers ws (rw e at z))
+
+  pub taught-fits : (t .refusal ≡ 18 → ⊥) → Fits (t .car)
+  taught-fits n = rw e (lesson-fits c events answers (λ z. n (rw e z)))
+
+  pub taught-some : (x : List ℕ) → (t .refusal ≡ 18 → ⊥) → packed c ≡ ws → x ≡ packed (t .car) ++ drop 12 ws
+      → _≡_ {A = LessonLeft} (record { refusal = t .refusal; words = x; answers = answered; accepted = t .accepted; refused = t .refused }) (taughtLeft c ws events answers)
+  taught-some x n p h = rw (h, e, f) (left-some c events answers ws (λ z. n (rw e z)) p)
+
+pub twelve-packed : (c : Car) (ws : List ℕ) → packed c ≡ ws → 12 ≤ length ws
+twelve-packed c ws e = rw (sym e) (omega (arith, packed-length c))
+
+-- twelve words copied over zeros, the car that they give, and the words of that car
+module _ (ws x : List ℕ) (c : Car) (p : List ℕ) (s : Bool) (l : length ws ≡ 12) (e : x ≡ take 12 ws ++ drop 12 (replicate 12 0)) (u : c ≡ unpacked x) (h : p ≡ packed c) (m : s ≡ sameWords p x) where
+  copied : x ≡ ws
+  copied = e ∙ append-nil (take 12 ws) ∙ take-all 12 ws (omega arith)
+
+  pub marked : s ≡ true → packed c ≡ ws
+  marked t = sym h ∙ same-eq p x (sym m ∙ t) ∙ copied
+
+  pub left-read : (events answers : List ℕ) → s ≡ true → taughtLeft c ws events answers ≡ lessonLeft ws (readOf ws) events answers
+  left-read events answers t =
+      left-marked ws events answers c s (u ∙ ap unpacked copied) (m ∙ rw (h, copied)) t
+
+  pub unmarked : s ≡ false → Refused 18 ≡ readOf ws
+  unmarked t = read-other x c p s u h m t ∙ ap readOf copied
+
+pub left-no : (ws events answers : List ℕ) (r a n : ℕ) → Refused 18 ≡ readOf ws → r ≡ 18 → a ≡ 0 → n ≡ 0
+    → _≡_ {A = LessonLeft} (record { refusal = r; words = ws; answers = answers; accepted = a; refused = n }) (lessonLeft ws (readOf ws) events answers)
+left-no ws events answers r a n h er ea en = rw (er, ea, en) (left-unread ws events answers h)

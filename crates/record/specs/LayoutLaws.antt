@@ -70,6 +70,31 @@ good-fits c h =
       tested = omega arith;
     }
 
+-- so does each number that words give
+pub unpacked-fits : (ws : List ℕ) → Fits (unpacked ws)
+unfolding unpacked carOf
+unpacked-fits ws =
+    record {
+      mode = omega arith;
+      key = omega arith;
+      updown = omega arith;
+      foreback = omega arith;
+      brake = omega arith;
+      gas = omega arith;
+      speed = omega arith;
+      limit = omega arith;
+      desired = omega arith;
+      manual = omega arith;
+      time = omega arith;
+      base = omega arith;
+      range = omega arith;
+      lead = omega arith;
+      earlier = omega arith;
+      gap = omega arith;
+      now = omega arith;
+      tested = omega arith;
+    }
+
 -- ---- the rows of a layout, from a place on
 abbrev Rows : (ℕ → List Field → Type 0) → ℕ → List (List Field) → Type 0
 Rows P place [] = Unit {0}

@@ -27,7 +27,7 @@ unfolding sameWords
 same-self [] = refl
 same-self (x ∷ xs) = and-both _ _ (eq-eqb x x refl) (same-self xs)
 
-same-eq : (a b : List ℕ) → sameWords a b ≡ true → a ≡ b
+pub same-eq : (a b : List ℕ) → sameWords a b ≡ true → a ≡ b
 unfolding sameWords
 same-eq [] [] h = refl
 same-eq [] (y ∷ ys) h = absurd (false≢true h)

@@ -1,6 +1,12 @@
 // A car's record (document 01, "The record"): twelve words, written from a good car and read back.
 ghost use mathlib.Core.Path.{_≡_};
+ghost use mathlib.Core.List.{_++_};
+ghost use Prim.Native.Nat.{_≤_};
+ghost use lib.ListN.{length, drop};
+ghost use Rattle.record.specs.Layout.{packed};
+ghost use Rattle.record.specs.LayoutLaws.{Fits};
 ghost use Rattle.record.specs.Record.{readOf, writeOf, savedRefusal, savedBuffer};
+ghost use Rattle.record.specs.RecordLesson.{LessonLeft, taughtLeft, lessonLeft};
 use car::Car;
 use event::refusal::NOT_ACCEPTED;
 use event::refusal::SHORT_RECORD;
@@ -71,7 +77,65 @@ pub fn write_into(car: Car, buffer: &mut [u32]) -> u32
     if buffer.len() < 12 {
         return SHORT_RECORD;
     }
+    save(car, buffer);
+    0
+}
+
+// The record into the first twelve words of a lent buffer that has them.
+fn save(car: Car, buffer: &mut [u32])
+    requires { ⌜ Fits car × (12 ≤ length (now buffer)) ⌝ }
+    ensures { λ _. ⌜ now (buffer .exit) ≡ packed car ++ drop 12 (now (buffer .entry)) ⌝ }
+{
     let words = layout::pack(car);
     words::copy(&words, buffer);
-    0
+}
+
+// A lesson's refusal, 0, 18 or 19, and its counts.
+pub struct Outcome {
+    pub refusal: u32,
+    pub accepted: usize,
+    pub refused: usize,
+}
+
+fn no_car() -> Outcome
+    ensures { λ r. ⌜ (r .refusal ≡ 18) × (r .accepted ≡ 0) × (r .refused ≡ 0) ⌝ }
+{
+    Outcome {
+        refusal: NOT_ACCEPTED,
+        accepted: 0,
+        refused: 0,
+    }
+}
+
+// A lesson of a car, whose record the words are: that of the car afterwards takes its place.
+fn teach(car: Car, words: &mut [u32], events: &[u32], answers: &mut [u32]) -> Outcome
+    requires { ⌜ packed car ≡ now words ⌝ }
+    ensures { λ r. ⌜ _≡_ {A = LessonLeft} (record { refusal = r .refusal; words = now (words .exit); answers = now (answers .exit); accepted = r .accepted; refused = r .refused }) (taughtLeft car (now (words .entry)) (now (events .entry)) (now (answers .entry))) ⌝ }
+{
+    let taught = car.lesson(events, answers);
+    if taught.refusal == NOT_ACCEPTED {
+        return no_car();
+    }
+    save(taught.car, words);
+    Outcome {
+        refusal: taught.refusal,
+        accepted: taught.accepted,
+        refused: taught.refused,
+    }
+}
+
+// A lesson of the car whose record lent words are. The car's own test is the lesson's, and made once.
+pub fn lesson(words: &mut [u32], events: &[u32], answers: &mut [u32]) -> Outcome
+    ensures { λ r. ⌜ _≡_ {A = LessonLeft} (record { refusal = r .refusal; words = now (words .exit); answers = now (answers .exit); accepted = r .accepted; refused = r .refused }) (lessonLeft (now (words .entry)) (readOf (now (words .entry))) (now (events .entry)) (now (answers .entry))) ⌝ }
+{
+    if words.len() != 12 {
+        return no_car();
+    }
+    let mut array = [0; 12];
+    words::copy(words, &mut array);
+    let car = layout::unpack(array);
+    if words::same(layout::pack(car), array) {
+        return teach(car, words, events, answers);
+    }
+    no_car()
 }

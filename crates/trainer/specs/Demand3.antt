@@ -13,7 +13,7 @@ use Rattle.car.specs.Good.{leverHeld}
 use Rattle.car.specs.Lesson.{driven, refusedOf, lessonOf}
 use Rattle.car.specs.Lever.{held}
 use Rattle.car.specs.Standing.{Good}
-use Rattle.trainer.specs.Calls.{Call, word, lesson, keep, outcome, refusalOf, ends, outcomes, words, given, withoutKeeps, withoutKept, accepted, acceptedTick, acceptedLever, acceptedWords, ticksOf, leversOf, Since, never, since}
+use Rattle.trainer.specs.Calls.{Call, lesson, keep, outcome, refusalOf, ends, outcomes, words, given, withoutKeeps, withoutKept, accepted, acceptedTick, acceptedLever, acceptedWords, ticksOf, leversOf, Since, never, since}
 
 -- (b) and (g) of neighbouring cars, those before and after one word; `tick` says whether it was an accepted tick
 pub record Neighbouring (tick : Bool) (c d : Car) : Type 0 where

@@ -1,39 +1,34 @@
 -- Demand 3 holds of every list of calls, from the fresh car of every permitted settings.
 -- One lemma for one word, then list inductions over a good car, then one lemma for a call.
 -- Assumes nothing.
-use mathlib.Core.Bool.{Bool, true, false, _&&_, true≢false}
+use mathlib.Core.Bool.{Bool, true, false, true≢false}
 use mathlib.Core.Path.{_≡_, refl, sym, ap, _∙_}
 use mathlib.Core.List.{List, [], _∷_, _++_}
-use Prim.Native.Nat.{ℕ, suc, _+_, _-_, _≤_, _<_}
+use Prim.Native.Nat.{ℕ, _+_, _-_, _≤_}
 use native.Mathlib.Omega.{arith}
-use borrow.Author.Tests.{eq-eqb, ne-eqb, eqb-true, eqb-false, lt-ltb, le-ltb, ltb-true, ltb-false}
+use borrow.Author.Tests.{eq-eqb, ne-eqb, lt-ltb, le-ltb}
 use lib.Dec.{eqb, ltb}
-use lib.ListN.{length, take, drop}
-use Rattle.kit.specs.Pick.{pick, pick-true, pick-false, and-l, and-r, and-left, and-next}
+use lib.ListN.{length, drop}
+use Rattle.kit.specs.Pick.{pick, pick-true, pick-false, and-left, and-next}
 use Rattle.event.specs.declared.Event.{Event}
-use Rattle.event.specs.declared.Reading.{Reading}
 use Rattle.event.specs.declared.Reading.the-variants as reading
 use Rattle.event.specs.Words.{readOf}
 use Rattle.car.specs.declared.Car.{Car}
 use Rattle.car.specs.declared.Fresh.the-variants.{Made}
 use Rattle.car.specs.declared.Levers.{Levers}
 use Rattle.car.specs.declared.drive.Driven.{Driven}
-use Rattle.car.specs.declared.lesson.Taught.{Taught}
-use Rattle.car.specs.Car.{ceilingOf, freshCar, settingsOf, freshOf}
+use Rattle.car.specs.Car.{freshCar, settingsOf, freshOf}
 use Rattle.car.specs.DistanceLaws.{acoustic-visual}
 use Rattle.car.specs.Drive.{checkOf, stepOf, driveOf, eventNext}
 use Rattle.car.specs.Good.{goodOf, leverHeld}
 use Rattle.car.specs.GoodLaws.{good, made-good}
 use Rattle.car.specs.Lesson.{driven, answersOf, acceptedOf, refusedOf, taughtOf, untaught, lessonOf, answersAfter, eachAfter}
 use Rattle.car.specs.LessonLaws.{driven-good, refusal-le}
-use Rattle.car.specs.Lever.{held}
 use Rattle.car.specs.Neighbours.{isTick, isLever, Neighbours}
-use Rattle.car.specs.Standing.{Good}
 use Rattle.car.specs.StepLaws.{Stepping, went, stayed, stepping, step-good, step-refusal, drive-step, next-neighbours}
 use Rattle.record.specs.Layout.{packed}
 use Rattle.record.specs.Record.{savedRefusal, savedBuffer}
 use Rattle.record.specs.RecordLaws.{saved-read}
-use Rattle.trainer.specs.declared.Kept.{Kept}
 use Rattle.trainer.specs.RecordCall.{readBack, keptOf}
 use Rattle.trainer.specs.Calls.{Call, word, lesson, keep, Outcome, drove, taught, kept, outcome, carOf, refusalOf, ends, outcomes, ran, words, given, withoutKeeps, withoutKept, accepted, readTick, readLever, acceptedTick, acceptedLever, acceptedWords, ticksOf, leversOf, Since, never, sinceWord, since}
 use Rattle.trainer.specs.Demand3.{Neighbouring, Held, Demand3}

@@ -8,8 +8,6 @@ use borrow.Author.Tests.{eq-eqb, ne-eqb}
 use lib.ListN.{length, take, length-take}
 use Rattle.kit.specs.Pick.{pick-true, pick-false}
 use Rattle.car.specs.declared.Car.{Car}
-use Rattle.record.specs.declared.Reading.the-variants.{Refused}
-use Rattle.record.specs.Accepted.{Accepted}
 use Rattle.record.specs.Record.{readOf, savedRefusal, savedBuffer}
 use Rattle.record.specs.RecordLaws.{not-accepted}
 use Rattle.trainer.specs.declared.Kept.{Kept}

@@ -1,6 +1,6 @@
 use borrow.Author.Needs.{needs}
 use native.Mathlib.Omega.{arith}
-use Prim.Native.Nat.{_≤_, _/_}
+use Prim.Native.Nat.{_≤_}
 use Rattle.kit.specs.Pick.{kinds}
 use Rattle.event.specs.Words.{kindsOf}
 use Rattle.event.proofs.read_kind.Statement.{statement}

@@ -1,4 +1,3 @@
-use native.Mathlib.Omega.{arith}
 use Rattle.car.specs.AccelerationLaws.{acceleration-size}
 use mathlib.Core.Path.{_≡_, _∙_}
 use Rattle.car.specs.Acceleration.{accelerationOf, change}
