@@ -9,7 +9,7 @@ use borrow.Author.Tests.{ltb-true, lt-ltb, le-ltb, eqb-true}
 use Rattle.kit.specs.Pick.{pick, pick-true, pick-false, pick-le, and-l, and-r, and-both}
 use Rattle.event.specs.WordLaws.{gap-le}
 use Rattle.car.specs.declared.Car.{Car}
-use Rattle.car.specs.Distance.{metres, secureDistance, ahead, within, visual, acoustic}
+use Rattle.car.specs.Distance.{metres, secureDistance, following, ahead, within, visual, acoustic}
 use Rattle.car.specs.Standing.{Ranges}
 
 -- a car within a distance is within every larger one
@@ -23,10 +23,7 @@ pub acoustic-visual : (c : Car) → acoustic c ≡ true → visual c ≡ true
 unfolding visual acoustic metres
 acoustic-visual c = within-more c _ _ (omega arith)
 
--- the tenths of a second that N lasts
-unfoldable pub following : Car → ℕ
-following c = pick (ltb 200 (c .radar .lead)) (c .gap) (pick (eqb (c .radar .lead) 0 || ltb (c .radar .lead) (c .radar .earlier)) 25 30)
-
+-- ---- N by the time that it lasts
 pub following-le : (c : Car) → Ranges c → following c ≤ 30
 unfolding following
 following-le c r = pick-le _ _ _ _ (gap-le _ (r .gap)) (pick-le _ _ _ _ (omega arith) (omega arith))

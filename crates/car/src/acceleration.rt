@@ -2,7 +2,7 @@
 // answer word has: one number without a sign.
 ghost use mathlib.Core.Path.{_≡_};
 ghost use Prim.Native.Nat.{_+_, _-_, _≤_, min};
-ghost use Rattle.car.specs.Acceleration.{speeding, slowing, brakeTerm, gasTerm, braked, backedOff, eased, towards, target, accelerationOf, accelerationCode};
+ghost use Rattle.car.specs.Acceleration.{speeding, slowing, brakeTerm, gasTerm, braked, backedOff, towards, target, accelerationOf, accelerationCode};
 ghost use Rattle.car.specs.Code.{decoded, strived, urgedCode};
 ghost use Rattle.car.specs.Standing.{Ranges};
 use crate::Car;

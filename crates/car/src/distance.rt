@@ -1,8 +1,7 @@
 // Secure distance, "ahead", "close" and the two warnings (document 01, "Rules of each event").
 ghost use mathlib.Core.Path.{_≡_};
 ghost use Prim.Native.Nat.{_≤_};
-ghost use Rattle.car.specs.Distance.{metres, secureDistance, ahead, within, close, visual, acoustic};
-ghost use Rattle.car.specs.DistanceLaws.{following};
+ghost use Rattle.car.specs.Distance.{metres, secureDistance, following, ahead, within, close, visual, acoustic};
 ghost use Rattle.car.specs.Standing.{Ranges};
 use crate::Car;
 

@@ -1,6 +1,6 @@
 // The rules of the nine events beside the tick (document 01, "Rules of each event"): one method for each, the car in whole and back whole.
 ghost use mathlib.Core.Path.{_≡_};
-ghost use Rattle.car.specs.Rules.{keyRadar, keyTurned, leverDesired, manualAfter, whileHeld, upDownMoved, engages, startDesired, engaged, forward, cruiseOff, backward, foreBackMoved, brakePressed, gasPressed, buttonPressed, gapChosen, signActs, signDesired, signAfter, signPassed, readingTaken};
+ghost use Rattle.car.specs.Rules.{keyRadar, keyTurned, leverDesired, manualAfter, whileHeld, upDownMoved, engages, startDesired, engaged, forward, backward, foreBackMoved, brakePressed, gasPressed, buttonPressed, gapChosen, signActs, signDesired, signAfter, signPassed, readingTaken};
 use crate::Car;
 use crate::Cruise;
 use crate::Limiter;
