@@ -105,13 +105,13 @@ fn run_case(kind: Kind, seed: u64, tally: &mut Tally, shown: bool) -> Result<(),
     }
 }
 
-/// Fresh cars with all small settings and random ones, into buffers of any length.
+/// Fresh cars of all small settings words and random ones, into buffers of any length.
 fn fresh_case(bench: &mut Bench, random: &mut Random) -> Result<(), Difference> {
-    for pair in 0..40 {
-        let (mode, signs) = if pair < 36 { (pair / 6, pair % 6) } else { (random.word(), random.word()) };
+    for small in 0..48 {
+        let settings = if small < 16 { 0xD000_0000 | small } else { random::settings_word(random) };
         let length = random.pick(&[0, 0, 1, 5, 11, 12, 12, 13, 14, 40]);
         let mut record = Buffer::random(random, length);
-        let car = bench.fresh(mode, signs, &mut record)?;
+        let car = bench.fresh(settings, &mut record)?;
         if length == 12 && car.is_some() {
             bench.test(car, &record)?;
             bench.figures(car, &record)?;
@@ -404,9 +404,9 @@ impl Bench<'_> {
         car
     }
 
-    fn fresh(&mut self, mode: u32, signs: u32, record: &mut Buffer) -> Result<Option<Car>, Difference> {
+    fn fresh(&mut self, settings: u32, record: &mut Buffer) -> Result<Option<Car>, Difference> {
         let before = input(record.expected(), record.is_null);
-        let (refusal, car) = match Car::fresh(mode, signs) {
+        let (refusal, car) = match Car::start(settings) {
             Err(refusal) => (refusal, None),
             Ok(_) if record.length() < 12 => (20, None),
             Ok(car) => (0, Some(car)),
@@ -414,11 +414,11 @@ impl Bench<'_> {
         if let Some(car) = car {
             record.expect(&car);
         }
-        let given = library::fresh(mode, signs, record.lend_mut());
+        let given = library::fresh(settings, record.lend_mut());
         self.tally.count(Call::Fresh, refusal);
         self.judge(
             given == refusal && record.is_as_expected(),
-            || format!("cruise_fresh mode {mode} signs {signs} record {before}"),
+            || format!("cruise_fresh settings {settings:08X} record {before}"),
             || format!("{refusal} record {}", hex(record.expected())),
             || format!("{given} record {}", found(record)),
         )?;

@@ -5,7 +5,7 @@ use std::ptr::{null, null_mut};
 
 mod c {
     extern "C" {
-        pub fn cruise_fresh(mode: u32, signs: u32, record: *mut u32, length: usize) -> u32;
+        pub fn cruise_fresh(settings: u32, record: *mut u32, length: usize) -> u32;
         pub fn cruise_drive(record: *mut u32, length: usize, word: u32) -> u32;
         pub fn cruise_lesson(
             record: *mut u32,
@@ -43,9 +43,9 @@ fn lent_mut(buffer: Option<&mut [u32]>) -> (*mut u32, usize) {
     buffer.map_or((null_mut(), 0), |words| (words.as_mut_ptr(), words.len()))
 }
 
-pub fn fresh(mode: u32, signs: u32, record: Option<&mut [u32]>) -> u32 {
+pub fn fresh(settings: u32, record: Option<&mut [u32]>) -> u32 {
     let (record, length) = lent_mut(record);
-    unsafe { c::cruise_fresh(mode, signs, record, length) }
+    unsafe { c::cruise_fresh(settings, record, length) }
 }
 
 pub fn drive(record: Option<&mut [u32]>, word: u32) -> u32 {

@@ -149,6 +149,15 @@ pub struct Car {
 }
 
 impl Car {
+    /// The fresh car of a settings word, kind 13 (bits 0-1 mode, bit 2 signs). 17: another kind, an unnamed bit set or a
+    /// mode not 1 or 2.
+    pub fn start(settings: u32) -> Result<Car, u32> {
+        if settings >> 28 != 13 || settings & 0x0FFF_FFF8 != 0 {
+            return Err(17);
+        }
+        Car::fresh(settings & 3, settings >> 2 & 1)
+    }
+
     /// A fresh car is made from its settings. 17: settings outside their values.
     pub fn fresh(mode: u32, signs: u32) -> Result<Car, u32> {
         let mode = Mode::new(mode).ok_or(17u32)?;

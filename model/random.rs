@@ -227,6 +227,17 @@ pub fn lesson_words(random: &mut Random, driver: &mut Driver, mut car: Car, coun
     words
 }
 
+/// A word with bits 0-2 and the kind of a settings word, one or two bits from it, or any word.
+pub fn settings_word(random: &mut Random) -> u32 {
+    let settings = word(13, random.between(0, 7));
+    match random.below(8) {
+        0..=3 => settings,
+        4 | 5 => settings ^ 1 << random.below(32),
+        6 => settings ^ 1 << random.below(32) ^ 1 << random.below(32),
+        _ => random.word(),
+    }
+}
+
 // ---------------------------------------------------------------- Cars
 
 pub fn fresh_car(random: &mut Random) -> Car {

@@ -38,13 +38,16 @@ pub fn run(start: Instant) {
         &workloads,
         &[("library", library_drive), ("record", model_record_drive), ("value", model_value_drive)],
     );
+    println!("\none record, ns per call, median of {RUNS} runs in turn: read and tested (cruise_test), and its figures (cruise_figures)");
+    print_pairs("test", &workloads, &[("library", library_test), ("model", model_test)]);
+    print_pairs("figures", &workloads, &[("library", library_figures), ("model", model_figures)]);
 }
 
 /// From the start of main to the first answer word of a lesson; the loading of the program is not in it.
 fn print_first_answer(start: Instant) {
     let mut record = [0; 12];
     let mut answers = [0];
-    library::fresh(2, 1, Some(&mut record));
+    library::fresh(0xD000_0006, Some(&mut record));
     library::lesson(Some(&mut record), Some(&[0x1000_0001]), Some(&mut answers));
     let elapsed = start.elapsed();
     println!("from the start of main to the first answer {:08X} of cruise_lesson: {elapsed:?}", answers[0]);
@@ -143,7 +146,42 @@ fn model_value_drive(record: &[u32; 12], words: &[u32], _: &mut [u32]) -> u32 {
     sum ^ car.write()[10]
 }
 
+/// A record read and tested once for each word; the words only say how often.
+fn library_test(record: &[u32; 12], words: &[u32], _: &mut [u32]) -> u32 {
+    words.iter().fold(0, |sum, _| sum + library::test(Some(black_box(record))))
+}
+
+fn model_test(record: &[u32; 12], words: &[u32], _: &mut [u32]) -> u32 {
+    words.iter().fold(0, |sum, _| sum + if Car::read(black_box(record)).is_some() { 0 } else { 18 })
+}
+
+/// A record's figures, as one number.
+fn library_figures(record: &[u32; 12], words: &[u32], _: &mut [u32]) -> u32 {
+    words.iter().fold(0, |sum: u32, _| {
+        let (refusal, out) = library::figures(Some(black_box(record)));
+        let [speed, desired, acceleration, visual, acoustic, distance] = [1, 3, 5, 7, 9, 11].map(|cell| out[cell]);
+        let shown = [refusal, speed, desired, acceleration, visual, acoustic, distance];
+        shown.iter().fold(sum, |sum, &figure| sum.wrapping_add(figure))
+    })
+}
+
+fn model_figures(record: &[u32; 12], words: &[u32], _: &mut [u32]) -> u32 {
+    words.iter().fold(0, |sum: u32, _| {
+        let f = Car::read(black_box(record)).expect("a good record").figures();
+        let (visual, acoustic) = (u32::from(f.visual), u32::from(f.acoustic));
+        let shown = [f.speed as u32, f.desired as u32, f.acceleration as u32, visual, acoustic, f.distance as u32];
+        shown.iter().fold(sum, |sum, &figure| sum.wrapping_add(figure))
+    })
+}
+
 // ---------------------------------------------------------------- Measuring
+
+fn print_pairs(name: &str, workloads: &[Workload], ways: &[(&str, Way); 2]) {
+    for workload in workloads {
+        let [library, model] = medians(workload, ways);
+        println!("{name:<9}{:<14}{library:>10.2}{model:>10.2}{:>10.2}", workload.name, library / model);
+    }
+}
 
 fn print_table(workloads: &[Workload], ways: &[(&str, Way); 3]) {
     let [first, second, third] = ways.map(|(name, _)| name);
@@ -158,17 +196,17 @@ fn print_table(workloads: &[Workload], ways: &[(&str, Way); 3]) {
 }
 
 /// The median time of each way in ns per word, the ways taking turns; all must come to the same number.
-fn medians(workload: &Workload, ways: &[(&str, Way); 3]) -> [f64; 3] {
+fn medians<const WAYS: usize>(workload: &Workload, ways: &[(&str, Way); WAYS]) -> [f64; WAYS] {
     let mut answers = vec![0; LESSON_WORDS];
-    let mut times = [[0.0; RUNS]; 3];
+    let mut times = [[0.0; RUNS]; WAYS];
     for run in 0..RUNS {
-        let sums = [0, 1, 2].map(|way| {
+        let sums: [u32; WAYS] = std::array::from_fn(|way| {
             let start = Instant::now();
             let sum = once(workload, ways[way].1, &mut answers);
             times[way][run] = start.elapsed().as_nanos() as f64 / (LESSONS * LESSON_WORDS) as f64;
             sum
         });
-        assert!(sums[0] == sums[1] && sums[1] == sums[2], "the ways differ: {sums:?}");
+        assert!(sums.iter().all(|&sum| sum == sums[0]), "the ways differ: {sums:?}");
     }
     times.map(|mut times| {
         times.sort_by(f64::total_cmp);

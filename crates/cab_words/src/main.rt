@@ -5,19 +5,6 @@ ghost use Rattle.car.specs.Drive.{driveOf};
 use car::Car;
 use car::Fresh;
 use car::drive::Driven;
-use libc::STDIN_FILENO;
-use libc::STDOUT_FILENO;
-
-fn next_word() -> u32 {
-    let mut bytes = [0u8; 4];
-    io::read_full(STDIN_FILENO, &mut bytes);
-    wire::word_at(&bytes, 0)
-}
-
-fn number(n: u32, after: &[u8]) {
-    io::print_decimal(STDOUT_FILENO, n as u64);
-    io::write_all(STDOUT_FILENO, after);
-}
 
 // Lends a car of its own to the open call. The only function here that is proved by hand.
 fn lent(car: Car, word: u32) -> Driven
@@ -32,11 +19,11 @@ fn lent(car: Car, word: u32) -> Driven
 }
 
 fn line(car: Car) -> Car {
-    let driven = lent(car, next_word());
+    let driven = lent(car, tester::next_word());
     let after = driven.car;
-    number(driven.refusal, b" ");
-    number(after.speed, b" ");
-    number(after.cruise.desired, b"\n");
+    tester::number(driven.refusal);
+    tester::number(after.speed);
+    tester::last(after.cruise.desired);
     after
 }
 
@@ -50,11 +37,11 @@ fn lines(first: Car, count: u32) {
 }
 
 fn main() {
-    let count = next_word();
-    let mode = next_word();
-    let signs = next_word();
+    let count = tester::next_word();
+    let mode = tester::next_word();
+    let signs = tester::next_word();
     match Car::fresh(mode, signs) {
         Fresh::Made(car) => lines(car, count),
-        Fresh::Refused(n) => number(n, b"\n"),
+        Fresh::Refused(n) => tester::last(n),
     }
 }

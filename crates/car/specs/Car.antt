@@ -1,8 +1,12 @@
 -- Document 01, "The car and a fresh one".
 -- Assumes nothing.
 use mathlib.Core.Bool.{Bool, false, _&&_, _||_, not}
+use mathlib.Core.Logic.{_⊎_}
+use mathlib.Core.Path.{_≡_}
 use Prim.Native.Nat.{ℕ}
 use lib.Dec.{eqb, ltb}
+use Rattle.kit.specs.Answer.{Answer, gives, refused}
+use Rattle.kit.specs.Bounds.{desiredCeiling}
 use Rattle.kit.specs.Pick.{pick}
 use Rattle.car.specs.declared.Settings.{Settings}
 use Rattle.car.specs.declared.Levers.{Levers}
@@ -31,6 +35,10 @@ freshCar s =
     }
 
 -- "Settings: mode 1 (normal cruise) or 2 (adaptive); signs 0 or 1"
+pub record Permitted (mode signs : ℕ) : Type 0 where
+  pub modes : (mode ≡ 1) ⊎ (mode ≡ 2)
+  pub flag : (signs ≡ 0) ⊎ (signs ≡ 1)
+
 unfoldable pub settingsOf : ℕ → ℕ → Settings
 settingsOf mode signs = record { mode = mode; signs = eqb signs 1 }
 
@@ -38,12 +46,17 @@ settingsOf mode signs = record { mode = mode; signs = eqb signs 1 }
 unfoldable pub check17 : ℕ → ℕ → Bool
 check17 mode signs = not (eqb mode 1) && not (eqb mode 2) || ltb 1 signs
 
-unfoldable pub freshOf : ℕ → ℕ → Fresh
-freshOf mode signs = pick (check17 mode signs) (Refused 17) (Made (freshCar (settingsOf mode signs)))
+-- what `Car::fresh` says: the car, or 17
+abbrev pub freshAnswer : Fresh → Answer Car
+freshAnswer (Made c) = gives c
+freshAnswer (Refused n) = refused n
+
+unfoldable pub freshOf : ℕ → ℕ → Answer Car
+freshOf mode signs = pick (check17 mode signs) (refused 17) (gives (freshCar (settingsOf mode signs)))
 
 -- the ceiling of D and B
 unfoldable pub ceilingOf : Settings → ℕ
-ceilingOf s = 2000
+ceilingOf s = desiredCeiling
 
 -- ---- the same car with one part changed
 unfoldable pub withLevers : Car → Levers → Car

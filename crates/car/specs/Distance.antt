@@ -18,13 +18,6 @@ secureDistance c =
     (pick (eqb (c .radar .lead) 0 || ltb (c .radar .lead) (c .radar .earlier)) (metres 25 (c .speed))
     (metres 30 (c .speed))))
 
--- the tenths of a second that N lasts, where it is not 2
-unfoldable pub following : Car → ℕ
-following c =
-    pick (ltb 200 (c .radar .lead)) (c .gap)
-    (pick (eqb (c .radar .lead) 0 || ltb (c .radar .lead) (c .radar .earlier)) 25
-    30)
-
 -- ""Ahead" means mode 2, C = 1, R in 1..254"
 unfoldable pub ahead : Car → Bool
 ahead c = eqb (c .settings .mode) 2 && c .cruise .on && leb 1 (c .radar .range) && leb (c .radar .range) 254

@@ -2,11 +2,12 @@
 -- Assumes nothing.
 use Prim.Native.Nat.{ℕ}
 use lib.Dec.{eqb}
+use Rattle.kit.specs.Answer.{Answer, gives, refused}
 use Rattle.kit.specs.Pick.{pick}
+use Rattle.event.specs.declared.Input.{Input}
+use Rattle.event.specs.declared.Input.the-variants.{Key, UpDown, ForeBack, Brake, Gas, Button, Gap, Sign, Radar}
 use Rattle.event.specs.declared.Event.{Event}
-use Rattle.event.specs.declared.Event.the-variants.{Key, UpDown, ForeBack, Brake, Gas, Button, Gap, Sign, Radar, Tick}
-use Rattle.event.specs.declared.Reading.{Reading}
-use Rattle.event.specs.declared.Reading.the-variants.{Read, Refused}
+use Rattle.event.specs.declared.Event.the-variants as event
 use Rattle.event.specs.Words.{readOf}
 use Rattle.car.specs.declared.Car.{Car}
 use Rattle.car.specs.declared.drive.Driven.{Driven}
@@ -15,30 +16,33 @@ use Rattle.car.specs.Good.{goodOf}
 use Rattle.car.specs.Rules.{keyTurned, upDownMoved, foreBackMoved, brakePressed, gasPressed, buttonPressed, gapChosen, signPassed, readingTaken, ticked}
 
 -- the next car by an event's rule
+unfoldable pub inputNext : Car → Input → Car
+inputNext c (Key position ready) = keyTurned c position ready
+inputNext c (UpDown x) = upDownMoved c x
+inputNext c (ForeBack y) = foreBackMoved c y
+inputNext c (Brake x) = brakePressed c x
+inputNext c (Gas x) = gasPressed c x
+inputNext c (Button limit) = buttonPressed c limit
+inputNext c (Gap tenths) = gapChosen c tenths
+inputNext c (Sign s) = signPassed c s
+inputNext c (Radar range speed) = readingTaken c range speed
+
 unfoldable pub eventNext : Car → Event → Car
-eventNext c (Key position ready) = keyTurned c position ready
-eventNext c (UpDown x) = upDownMoved c x
-eventNext c (ForeBack y) = foreBackMoved c y
-eventNext c (Brake x) = brakePressed c x
-eventNext c (Gas x) = gasPressed c x
-eventNext c (Button limit) = buttonPressed c limit
-eventNext c (Gap tenths) = gapChosen c tenths
-eventNext c (Sign s) = signPassed c s
-eventNext c (Radar range speed) = readingTaken c range speed
-eventNext c (Tick ready) = ticked c ready
+eventNext c (event.Input i) = inputNext c i
+eventNext c (event.Tick ready) = ticked c ready
 
 -- "Checks run in rising number; the first that holds is the refusal, and with none the event is accepted": 1 to 16 of a word, 0 for none
-unfoldable pub readingCheck : Car → Reading → ℕ
-readingCheck c (Refused n) = n
-readingCheck c (Read e) = eventCheck c e
+unfoldable pub readingCheck : Car → Answer Event → ℕ
+readingCheck c (refused n) = n
+readingCheck c (gives e) = eventCheck c e
 
 unfoldable pub checkOf : Car → ℕ → ℕ
 checkOf c w = readingCheck c (readOf w)
 
 -- the next car by the rule of a word's event
-unfoldable pub readingNext : Car → Reading → Car
-readingNext c (Refused n) = c
-readingNext c (Read e) = eventNext c e
+unfoldable pub readingNext : Car → Answer Event → Car
+readingNext c (refused n) = c
+readingNext c (gives e) = eventNext c e
 
 unfoldable pub nextOf : Car → ℕ → Car
 nextOf c w = readingNext c (readOf w)
@@ -46,10 +50,6 @@ nextOf c w = readingNext c (readOf w)
 -- "A refused event changes no field"
 unfoldable pub chosen : Car → ℕ → Car → Driven
 chosen c refusal next = pick (eqb refusal 0) (record { car = next; refusal = 0 }) (record { car = c; refusal = refusal })
-
--- an event that was read
-unfoldable pub takenOf : Car → Event → Driven
-takenOf c e = chosen c (eventCheck c e) (eventNext c e)
 
 -- a word driven by the checks 1 to 16 and the rules alone
 unfoldable pub stepOf : Car → ℕ → Driven

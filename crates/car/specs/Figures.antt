@@ -1,4 +1,4 @@
--- The figures of a car, and document 01's table "Figures proved together".
+-- The figures that the dials show of a car.
 -- Assumes nothing.
 use mathlib.Core.Bool.{false}
 use Rattle.kit.specs.Pick.{pick}

@@ -4,33 +4,37 @@
 use mathlib.Core.Bool.{Bool, _&&_, _||_, not, Bool·beq}
 use Prim.Native.Nat.{ℕ, _+_, _-_}
 use lib.Dec.{eqb, leb, ltb}
+use Rattle.kit.specs.Bounds.{pedalCeiling, speedCeiling, desiredCeiling, lessonLength, testPeriod}
 use Rattle.event.specs.Words.{permittedGap}
+use Rattle.desired.specs.Desired.{held}
 use Rattle.car.specs.declared.Car.{Car}
 use Rattle.car.specs.Car.{ceilingOf}
-use Rattle.car.specs.Lever.{held}
 
--- the ranges of the numbers; `top` is the ceiling of D and B
-unfoldable pub numbersOf : ℕ → Car → Bool
-numbersOf top c =
+-- the ranges of what the hands and feet hold, and of the numbers; `top` is the ceiling of D and B
+unfoldable pub positionsOf : Car → Bool
+positionsOf c =
     leb 1 (c .settings .mode) && leb (c .settings .mode) 2
     && leb (c .key) 2
     && leb (c .levers .updown) 4
     && leb (c .levers .foreback) 2
-    && leb (c .pedals .brake) 225
-    && leb (c .pedals .gas) 225
-    && leb (c .speed) 5000
-    && leb (c .limiter .limit) 5000
+    && leb (c .pedals .brake) pedalCeiling
+    && leb (c .pedals .gas) pedalCeiling
+
+unfoldable pub numbersOf : ℕ → Car → Bool
+numbersOf top c =
+    leb (c .speed) speedCeiling
+    && leb (c .limiter .limit) speedCeiling
     && leb (c .cruise .desired) top
-    && (eqb (c .cruise .manual) 0 || leb 1200 (c .cruise .manual)) && leb (c .cruise .manual) 2000
+    && (eqb (c .cruise .manual) 0 || leb 1200 (c .cruise .manual)) && leb (c .cruise .manual) desiredCeiling
     && leb (c .levers .base) top
     && leb (c .radar .range) 255
-    && leb (c .radar .lead) 5000
-    && leb (c .radar .earlier) 5000
-    && leb (c .now) 86400
-    && leb (c .radar .tested) 86400
+    && leb (c .radar .lead) speedCeiling
+    && leb (c .radar .earlier) speedCeiling
+    && leb (c .now) lessonLength
+    && leb (c .radar .tested) lessonLength
 
 unfoldable pub rangesOf : Car → Bool
-rangesOf c = numbersOf (ceilingOf (c .settings)) c && permittedGap (c .gap)
+rangesOf c = positionsOf c && numbersOf (ceilingOf (c .settings)) c && permittedGap (c .gap)
 
 -- "C = 1 and L is out"
 abbrev pub leverHeld : Car → Bool
@@ -76,7 +80,7 @@ ruleD c = (not (c .limiter .on) || limitingOf c) && (not (c .limiter .button) ||
 
 -- (e) "R = 255 exactly when P = 0. Key on: Q ≤ now < Q + 600"
 abbrev pub testedOf : Car → Bool
-testedOf c = leb (c .radar .tested) (c .now) && ltb (c .now) (c .radar .tested + 600)
+testedOf c = leb (c .radar .tested) (c .now) && ltb (c .now) (c .radar .tested + testPeriod)
 
 unfoldable pub ruleE : Car → Bool
 ruleE c = Bool·beq (eqb (c .radar .range) 255) (not (c .radar .ready)) && (not (eqb (c .key) 2) || testedOf c)

@@ -1,24 +1,23 @@
 -- The good-car test and the named rules of `Standing` say the same; a fresh car is good.
 -- Assumes nothing.
-use mathlib.Core.Bool.{Bool, true, false, _&&_, _||_, not, Bool·beq}
+use mathlib.Core.Bool.{Bool, true, false, _||_, not, Bool·beq}
 use mathlib.Core.Path.{_≡_, refl, sym, _∙_}
 use Prim.Native.Nat.{ℕ, _+_, _-_, _≤_, _<_}
-use lib.Dec.{eqb, ltb}
+use lib.Dec.{eqb}
 use native.Mathlib.Omega.{arith}
 use borrow.Author.Tests.{leb-true, eqb-true, eqb-false, le-leb, eq-eqb, ne-eqb}
-use Rattle.kit.specs.Pick.{pick-case, and-l, and-r, and-both, implied, or-else, not-is, or-test, implies-test, not-of-false, not-of-true}
+use Rattle.kit.specs.Bounds.{desiredCeiling, testPeriod}
+use Rattle.kit.specs.Pick.{and-l, and-r, and-both, implied, or-else, not-is, or-test, implies-test, not-of-false, not-of-true}
 use Rattle.event.specs.Words.{permittedGap}
+use Rattle.desired.specs.Desired.{held}
 use Rattle.car.specs.declared.Car.{Car}
 use Rattle.car.specs.declared.Settings.{Settings}
-use Rattle.car.specs.declared.Fresh.{Fresh}
-use Rattle.car.specs.declared.Fresh.the-variants.{Made}
-use Rattle.car.specs.Car.{ceilingOf, freshCar, freshOf, check17, settingsOf}
-use Rattle.car.specs.Lever.{held}
-use Rattle.car.specs.Good.{numbersOf, rangesOf, timesOf, ruleA, ruleB, ruleC, ruleD, ruleE, ruleF, leverHeld, idleOf, offOf, cruisingOf, limitingOf, buttonOf, testedOf, obeysOf, goodOf}
+use Rattle.car.specs.Car.{ceilingOf, freshCar}
+use Rattle.car.specs.Good.{positionsOf, numbersOf, rangesOf, timesOf, ruleA, ruleB, ruleC, ruleD, ruleE, ruleF, leverHeld, idleOf, offOf, cruisingOf, limitingOf, buttonOf, testedOf, obeysOf, goodOf}
 use Rattle.car.specs.Standing.{Ranges, Off, Cruising, Limiting, Good}
 
 -- the ceiling of D and B
-pub ceiling-le : (s : Settings) → ceilingOf s ≤ 2000
+pub ceiling-le : (s : Settings) → ceilingOf s ≤ desiredCeiling
 unfolding ceilingOf
 ceiling-le s = omega arith
 
@@ -26,7 +25,7 @@ pub ceiling-low : (s : Settings) → 10 ≤ ceilingOf s
 unfolding ceilingOf
 ceiling-low s = omega arith
 
-pub ceiling-high : (s : Settings) → 2000 ≤ ceilingOf s
+pub ceiling-high : (s : Settings) → desiredCeiling ≤ ceilingOf s
 unfolding ceilingOf
 ceiling-high s = omega arith
 
@@ -38,11 +37,11 @@ eqb-some : (n : ℕ) → eqb n 0 ≡ false → 1 ≤ n
 eqb-some n h = let e = eqb-false n 0 h in omega arith
 
 pub ranges : (c : Car) → rangesOf c ≡ true → Ranges c
-unfolding rangesOf numbersOf
+unfolding rangesOf positionsOf numbersOf
 ranges c h = search (and-l, and-r, leb-true, or-else, some-eqb) depth 24 fits 4000
 
 pub ranges-test : (c : Car) → Ranges c → rangesOf c ≡ true
-unfolding rangesOf numbersOf
+unfolding rangesOf positionsOf numbersOf
 ranges-test c r = search (and-both, le-leb, or-test, eqb-some, r .manual-low) depth 24 fits 4000
 
 pub good-ranges : (c : Car) → goodOf c ≡ true → Ranges c
@@ -135,7 +134,7 @@ module _ (c : Car) where
   ready : ruleE c ≡ true → c .radar .ready ≡ true → c .radar .range ≡ 255 → ⊥
   ready h e = eqb-false _ _ (range-is h ∙ not-of-true _ e)
 
-  tested : ruleE c ≡ true → c .key ≡ 2 → (c .radar .tested ≤ c .now) × (c .now < c .radar .tested + 600)
+  tested : ruleE c ≡ true → c .key ≡ 2 → (c .radar .tested ≤ c .now) × (c .now < c .radar .tested + testPeriod)
   unfolding ruleE
   tested h k =
       let s : (not (eqb (c .key) 2) || testedOf c) ≡ true = search (and-r) in
@@ -143,7 +142,7 @@ module _ (c : Car) where
       search (and-l, and-r, leb-true)
 
   e-test : (c .radar .ready ≡ false → c .radar .range ≡ 255) → (c .radar .ready ≡ true → c .radar .range ≡ 255 → ⊥)
-      → (c .key ≡ 2 → (c .radar .tested ≤ c .now) × (c .now < c .radar .tested + 600)) → ruleE c ≡ true
+      → (c .key ≡ 2 → (c .radar .tested ≤ c .now) × (c .now < c .radar .tested + testPeriod)) → ruleE c ≡ true
   unfolding ruleE
   e-test p q r =
       and-both _ (not (eqb (c .key) 2) || testedOf c)
@@ -219,23 +218,5 @@ good-test c g =
 
 -- ---- a fresh car is good
 pub fresh-good : (s : Settings) → 1 ≤ s .mode → s .mode ≤ 2 → goodOf (freshCar s) ≡ true
-unfolding goodOf rangesOf numbersOf permittedGap ceilingOf freshCar obeysOf timesOf ruleA ruleB ruleC ruleD ruleE ruleF
+unfolding goodOf rangesOf positionsOf numbersOf permittedGap ceilingOf freshCar obeysOf timesOf ruleA ruleB ruleC ruleD ruleE ruleF
 fresh-good s p q = rw (le-leb 1 (s .mode) p, le-leb (s .mode) 2 q)
-
--- 17 passed: the mode is 1 or 2
-mode-passed : (mode signs : ℕ) → check17 mode signs ≡ false → (1 ≤ mode) × (mode ≤ 2)
-unfolding check17
-mode-passed mode signs = go (eqb mode 1) (eqb mode 2) refl refl
-  where
-    go : (p q : Bool) → eqb mode 1 ≡ p → eqb mode 2 ≡ q → (not p && not q || ltb 1 signs) ≡ false → (1 ≤ mode) × (mode ≤ 2)
-    go true q e f h = let d = eqb-true mode 1 e in (omega arith, omega arith)
-    go false true e f h = let d = eqb-true mode 2 f in (omega arith, omega arith)
-    go false false e f h = let z : _≡_ {A = ℕ} 0 1 = cc in omega arith
-
--- a car that settings make is the fresh one, and is good
-pub made-good : (mode signs : ℕ) (c : Car) → freshOf mode signs ≡ Made c → (c ≡ freshCar (settingsOf mode signs)) × (goodOf c ≡ true)
-unfolding freshOf settingsOf
-made-good mode signs c =
-    pick-case (λ (f : Fresh). f ≡ Made c → (c ≡ freshCar (settingsOf mode signs)) × (goodOf c ≡ true)) (check17 mode signs) _ _
-    (λ t e. let z : _≡_ {A = ℕ} 0 1 = cc in absurd (omega arith))
-    (λ t e. let m = mode-passed mode signs t in let g = fresh-good (settingsOf mode signs) (m .0) (m .1) in let d : c ≡ freshCar (settingsOf mode signs) = cc in (d, rw d g))

@@ -6,18 +6,22 @@ use Prim.Native.Nat.{ℕ, _+_, _-_, _≤_, _<_, min}
 use lib.Dec.{eqb, leb, ltb}
 use native.Mathlib.Omega.{arith}
 use borrow.Author.Tests.{leb-true, leb-false, ltb-true, ltb-false, eqb-true, eqb-false, eq-eqb, ne-eqb}
+use Rattle.kit.specs.Bounds.{pedalCeiling, speedCeiling, desiredCeiling, lessonLength, testPeriod}
 use Rattle.kit.specs.Pick.{pick-true, pick-false, pick-case, pick-le, le-pick, and-left, and-l, and-r, not-is, and-right, and-next, not-of-true, not-of-false}
 use Rattle.event.specs.Words.{permittedGap}
+use Rattle.desired.specs.Desired.{held, manualAfter, signDesired}
+use Rattle.desired.specs.DesiredLaws.{stepped-le, stepped-pos, longHeld-le, longHeld-pos, held-early, held-late, held-start}
+use Rattle.motion.specs.Acceleration.{speeding}
+use Rattle.motion.specs.AccelerationLaws.{Banded, change-none}
+use Rattle.motion.specs.Speed.{change}
+use Rattle.motion.specs.SpeedLaws.{atMost-le, atMost-cap, le-atMost, moved-le, moved-up, moved-down}
 use Rattle.car.specs.declared.Car.{Car}
 use Rattle.car.specs.declared.RangeRadar.{RangeRadar}
-use Rattle.car.specs.declared.acceleration.Acceleration.{Acceleration}
-use Rattle.car.specs.Acceleration.{accelerationOf, speeding, change}
+use Rattle.car.specs.Acceleration.{accelerationOf}
 use Rattle.car.specs.Car.{ceilingOf, withLevers, withPedals, withLimiter, withCruise, withRadar, withGap}
 use Rattle.car.specs.Good.{leverHeld}
 use Rattle.car.specs.GoodLaws.{ceiling-le, ceiling-low, ceiling-high}
-use Rattle.car.specs.Lever.{held}
-use Rattle.car.specs.LeverLaws.{stepped-le, stepped-pos, longHeld-le, longHeld-pos, held-early, held-late, held-start}
-use Rattle.car.specs.Rules.{keyRadar, keyTurned, leverDesired, manualAfter, whileHeld, upDownMoved, withForeback, engages, startDesired, engaged, forward, cruiseOff, backward, foreBackMoved, signActs, signDesired, signAfter, signPassed, readingTaken, testDue, rangeAfter, radarTested, radarAfter, holdDesired, tickDesired, moved, atMost, holdsDesired, tickSpeed, ticked}
+use Rattle.car.specs.Rules.{keyRadar, keyTurned, leverDesired, whileHeld, upDownMoved, withForeback, engages, startDesired, engaged, forward, cruiseOff, backward, foreBackMoved, signActs, signAfter, signPassed, readingTaken, testDue, rangeAfter, radarTested, radarAfter, holdDesired, tickDesired, holdsDesired, tickSpeed, ticked}
 use Rattle.car.specs.Standing.{Off, Good}
 
 no : {A : Type 0} → true ≡ false → A
@@ -30,15 +34,15 @@ refuted false h = refl
 -- ---- what the rules ask of the radar, with the key at k and the clock at now
 record RadarGood (k now : ℕ) (r : RangeRadar) : Type 0 where
   pub range : r .range ≤ 255
-  pub lead : r .lead ≤ 5000
-  pub earlier : r .earlier ≤ 5000
-  pub tested-range : r .tested ≤ 86400
+  pub lead : r .lead ≤ speedCeiling
+  pub earlier : r .earlier ≤ speedCeiling
+  pub tested-range : r .tested ≤ lessonLength
   pub not-ready : r .ready ≡ false → r .range ≡ 255
   pub ready : r .ready ≡ true → r .range ≡ 255 → ⊥
-  pub tested : k ≡ 2 → (r .tested ≤ now) × (now < r .tested + 600)
+  pub tested : k ≡ 2 → (r .tested ≤ now) × (now < r .tested + testPeriod)
   pub off : (k ≡ 2 → ⊥) → (r .ready ≡ false) × (r .lead ≡ 0) × (r .earlier ≡ 0) × (r .tested ≡ 0) × (r .range ≡ 255)
 
-keyRadar-good : (k : ℕ) (ready : Bool) (now : ℕ) → now ≤ 86400 → RadarGood k now (keyRadar k ready now)
+keyRadar-good : (k : ℕ) (ready : Bool) (now : ℕ) → now ≤ lessonLength → RadarGood k now (keyRadar k ready now)
 unfolding keyRadar
 keyRadar-good k ready now h =
     pick-case (RadarGood k now) (eqb k 2) _ _
@@ -121,7 +125,7 @@ module _ (c : Car) (g : Good c) where
   manualAfter-low d =
       pick-case (λ (n : ℕ). 1 ≤ n → 1200 ≤ n) (leb 1200 d) _ _ (λ t _. leb-true _ _ t) (λ _. g .ranges .manual-low)
 
-  manualAfter-le : (d : ℕ) → d ≤ ceilingOf (c .settings) → manualAfter d (c .cruise .manual) ≤ 2000
+  manualAfter-le : (d : ℕ) → d ≤ ceilingOf (c .settings) → manualAfter d (c .cruise .manual) ≤ desiredCeiling
   unfolding manualAfter
   manualAfter-le d h = let t = ceiling-le (c .settings) in pick-le _ _ _ _ (omega arith) (g .ranges .manual)
 
@@ -277,7 +281,7 @@ module _ (c : Car) (g : Good c) where
       }
 
   -- ---- the pedals
-  pub pedal-good : (b a : ℕ) → b ≤ 225 → a ≤ 225 → (1 ≤ b → a ≡ 0) → c .key ≡ 2 → (c .cruise .on ≡ true → b ≡ 0) → (c .limiter .on ≡ true → a ≤ 90)
+  pub pedal-good : (b a : ℕ) → b ≤ pedalCeiling → a ≤ pedalCeiling → (1 ≤ b → a ≡ 0) → c .key ≡ 2 → (c .cruise .on ≡ true → b ≡ 0) → (c .limiter .on ≡ true → a ≤ 90)
       → Good (withPedals c (record { brake = b; gas = a }))
   unfolding withPedals
   pedal-good b a hb ha one k cruise limiter =
@@ -298,7 +302,7 @@ module _ (c : Car) (g : Good c) where
         hold = g .hold;
       }
 
-  pub limiter-good : (h s : Bool) (z : ℕ) → z ≤ 5000 → c .key ≡ 2 → (s ≡ true → (h ≡ true) × (c .pedals .gas ≤ 90) × (c .speed ≤ z)) → (h ≡ true → c .levers .foreback ≡ 2 → ⊥)
+  pub limiter-good : (h s : Bool) (z : ℕ) → z ≤ speedCeiling → c .key ≡ 2 → (s ≡ true → (h ≡ true) × (c .pedals .gas ≤ 90) × (c .speed ≤ z)) → (h ≡ true → c .levers .foreback ≡ 2 → ⊥)
       → Good (withLimiter c (record { button = h; on = s; limit = z }))
   unfolding withLimiter
   limiter-good h s z hz k on in′ =
@@ -419,7 +423,7 @@ module _ (c : Car) (g : Good c) where
         hold = g .hold;
       }
 
-  pub reading-good : (range speed : ℕ) → range ≤ 254 → speed ≤ 5000 → c .key ≡ 2 → c .radar .ready ≡ true → Good (readingTaken c range speed)
+  pub reading-good : (range speed : ℕ) → range ≤ 254 → speed ≤ speedCeiling → c .key ≡ 2 → c .radar .ready ≡ true → Good (readingTaken c range speed)
   unfolding readingTaken
   reading-good range speed hr hs k p =
       let r = g .ranges in
@@ -457,31 +461,7 @@ rangeAfter-not : (ready : Bool) (r : ℕ) → ready ≡ false → rangeAfter rea
 unfolding rangeAfter
 rangeAfter-not ready r e = simp (pick-true, e)
 
-atMost-le : (on : Bool) (m v k : ℕ) → v ≤ k → atMost on m v ≤ k
-unfolding atMost
-atMost-le on m v k h = pick-le _ _ _ _ (omega arith) h
-
-atMost-cap : (on : Bool) (m v : ℕ) → on ≡ true → atMost on m v ≤ m
-unfolding atMost
-atMost-cap on m v e = rw (pick-true on (min v m) v e) (omega arith)
-
-le-atMost : (on : Bool) (m v k : ℕ) → k ≤ v → (on ≡ true → k ≤ m) → k ≤ atMost on m v
-unfolding atMost
-le-atMost on m v k h f = pick-case (λ (n : ℕ). k ≤ n) on _ _ (λ t. let i = f t in omega arith) (λ _. h)
-
-moved-le : (v : ℕ) (a : Acceleration) → moved v a ≤ 5000
-unfolding moved
-moved-le v a = omega arith
-
-moved-up : (v : ℕ) (a : Acceleration) → moved v a ≤ v + a .size
-unfolding moved
-moved-up v a = let h = pick-le (a .slows) (v - a .size) (v + a .size) (v + a .size) (omega arith) (omega arith) in omega arith
-
-moved-down : (v : ℕ) (a : Acceleration) → v ≤ 5000 → v - a .size ≤ moved v a
-unfolding moved
-moved-down v a p = let h = le-pick (a .slows) (v - a .size) (v + a .size) (v - a .size) (omega arith) (omega arith) in omega arith
-
-module _ (c : Car) (g : Good c) (end : c .now < 86400) where
+module _ (c : Car) (g : Good c) (end : c .now < lessonLength) where
   radarAfter-good : (ready : Bool) → RadarGood (c .key) (c .now + 1) (radarAfter c ready)
   unfolding radarAfter radarTested testDue
   radarAfter-good ready =
@@ -495,7 +475,7 @@ module _ (c : Car) (g : Good c) (end : c .now < 86400) where
         not-ready = rangeAfter-not ready _;
         ready = rangeAfter-ready ready _;
         tested = λ _. omega arith;
-        off = λ q. absurd (q (eqb-true _ _ (and-l (eqb (c .key) 2) (eqb (c .now + 1) (c .radar .tested + 600)) t)));
+        off = λ q. absurd (q (eqb-true _ _ (and-l (eqb (c .key) 2) (eqb (c .now + 1) (c .radar .tested + testPeriod)) t)));
       })
       (λ t. record {
         range = r .range;
@@ -508,7 +488,7 @@ module _ (c : Car) (g : Good c) (end : c .now < 86400) where
         off = λ q. let o = g .off q in (o .ready, o .lead, o .earlier, o .tested, o .range);
       })
     where
-      not-due : c .key ≡ 2 → (eqb (c .key) 2 && eqb (c .now + 1) (c .radar .tested + 600)) ≡ false → c .now + 1 ≡ c .radar .tested + 600 → ⊥
+      not-due : c .key ≡ 2 → (eqb (c .key) 2 && eqb (c .now + 1) (c .radar .tested + testPeriod)) ≡ false → c .now + 1 ≡ c .radar .tested + testPeriod → ⊥
       not-due k t = eqb-false _ _ (simp k at t)
 
   holdDesired-le : (h : ℕ) → holdDesired c h ≤ ceilingOf (c .settings)
@@ -551,7 +531,7 @@ module _ (c : Car) (g : Good c) (end : c .now < 86400) where
       let e = leb-false 2 (c .now + 1 - c .levers .time) (sym (and-next _ _ q) ∙ u) in
       g .hold t ∙ held-early _ _ _ (c .now - c .levers .time) (omega arith) ∙ sym (held-early _ _ _ _ e))
 
-  tickSpeed-le : (d : ℕ) → tickSpeed c d ≤ 5000
+  tickSpeed-le : (d : ℕ) → tickSpeed c d ≤ speedCeiling
   unfolding tickSpeed
   tickSpeed-le d = atMost-le _ _ _ _ (atMost-le _ _ _ _ (moved-le _ _))
 
@@ -559,23 +539,24 @@ module _ (c : Car) (g : Good c) (end : c .now < 86400) where
   unfolding tickSpeed
   tickSpeed-limit d e = atMost-le _ _ _ _ (atMost-cap _ _ _ e)
 
-  pub tickSpeed-up : (d : ℕ) → tickSpeed c d ≤ c .speed + change (accelerationOf c) .size
+  -- (g) v moves by no more than a second's change, up and down apart
+  pub tickSpeed-up : (down up d : ℕ) → Banded down up (change (accelerationOf c)) → tickSpeed c d ≤ c .speed + up
   unfolding tickSpeed
-  tickSpeed-up d = atMost-le _ _ _ _ (atMost-le _ _ _ _ (moved-up _ _))
+  tickSpeed-up down up d h = atMost-le _ _ _ _ (atMost-le _ _ _ _ (moved-up _ down up _ h))
 
-  pub tickSpeed-down : (d : ℕ) → c .speed - change (accelerationOf c) .size ≤ tickSpeed c d
+  pub tickSpeed-down : (down up d : ℕ) → Banded down up (change (accelerationOf c)) → c .speed - down ≤ tickSpeed c d
   unfolding tickSpeed holdsDesired
-  tickSpeed-down d =
+  tickSpeed-down down up d h =
       le-atMost _ _ _ _
-      (le-atMost _ _ _ _ (moved-down _ _ (g .ranges .speed)) (λ t. let k = g .limiter-on t .speed in omega arith))
+      (le-atMost _ _ _ _ (moved-down _ down up _ h (g .ranges .speed)) (λ t. let k = g .limiter-on t .speed in omega arith))
       (λ t. let k = leb-true (c .speed) d (and-r (c .cruise .on && eqb (c .pedals .gas) 0) _ t) in omega arith)
 
   -- with the key off nothing moves
   tickSpeed-off : (d : ℕ) → Off c → (c .key ≡ 2 → ⊥) → tickSpeed c d ≡ 0
-  unfolding accelerationOf speeding change
+  unfolding accelerationOf
   tickSpeed-off d o k =
       let a : accelerationOf c ≡ speeding 0 = pick-true _ _ _ (not-of-false _ (ne-eqb _ _ k)) in
-      let h = rw a at (tickSpeed-up d) in
+      let h = tickSpeed-up 0 0 d (rw a change-none) in
       omega (arith, o .speed)
 
   pub tick-good : (ready : Bool) → Good (ticked c ready)

@@ -1,36 +1,36 @@
 -- A lesson: document 01, "A lesson", and refusals 18 and 19.
 -- Assumes nothing.
 use mathlib.Core.List.{List, [], _∷_, _++_}
-use Prim.Native.Nat.{ℕ, _+_, _*_}
+use mathlib.Core.Bool.{Bool, _||_}
+use Prim.Native.Nat.{ℕ, _+_}
 use lib.Dec.{eqb, ltb}
 use lib.ListN.{length, drop}
 use Rattle.kit.specs.Pick.{pick}
-use Rattle.event.specs.Words.{bitOf}
+use Rattle.answer.specs.declared.Answer.{Answer}
+use Rattle.answer.specs.AnswerWord.{wordOf}
+use Rattle.motion.specs.Acceleration.{accelerationCode}
 use Rattle.car.specs.declared.Car.{Car}
 use Rattle.car.specs.declared.drive.Driven.{Driven}
 use Rattle.car.specs.declared.lesson.Taught.{Taught}
-use Rattle.car.specs.Acceleration.{accelerationOf, accelerationCode}
+use Rattle.car.specs.Acceleration.{accelerationOf}
 use Rattle.car.specs.Distance.{visual, acoustic}
 use Rattle.car.specs.Drive.{stepOf}
 use Rattle.car.specs.Good.{goodOf}
 
--- "kind 12, bits 0-4 refusal or 0, 5 visual, 6 acoustic, 7-13 a + 60, 14-24 D, the rest 0"
-unfoldable pub answerWord : ℕ → ℕ → ℕ → ℕ → ℕ → ℕ
-answerWord refusal visual acoustic acceleration desired =
-    12 * 268435456 + refusal + 32 * visual + 64 * acoustic + 128 * acceleration + 16384 * desired
+-- "one answer word per event: kind 12, bits 0-4 refusal or 0, 5 visual, 6 acoustic, 7-13 a + 60, 14-24 D, the rest 0, all of the car
+-- afterwards"
+unfoldable pub answering : Driven → Answer
+answering d =
+    record {
+      refusal = d .refusal;
+      visual = visual (d .car);
+      acoustic = acoustic (d .car);
+      acceleration = accelerationCode (accelerationOf (d .car));
+      desired = d .car .cruise .desired;
+    }
 
--- "all of the car afterwards"
 unfoldable pub answerOf : Driven → ℕ
-answerOf d =
-    answerWord (d .refusal) (bitOf (visual (d .car))) (bitOf (acoustic (d .car))) (accelerationCode (accelerationOf (d .car))) (d .car .cruise .desired)
-
--- the answer word of an accepted word that gave this car
-unfoldable pub acceptedAnswer : Car → ℕ
-acceptedAnswer c = answerOf (record { refusal = 0; car = c })
-
--- its bits "5 visual, 6 acoustic"
-unfoldable pub warningBits : Car → ℕ
-warningBits c = 32 * bitOf (visual c) + 64 * bitOf (acoustic c)
+answerOf d = wordOf (answering d)
 
 -- ---- words driven one after the other, by the checks 1 to 16 and the rules alone: the last car, the answers, the counts
 unfoldable pub driven : Car → List ℕ → Car
@@ -85,9 +85,22 @@ eachAfter f c ws buffer =
 abbrev pub answersAfter : Car → List ℕ → List ℕ → List ℕ
 answersAfter c ws buffer = eachAfter answerOf c ws buffer
 
--- ---- a row for each word, for a listing: the answer word, and above it in 64 bits the speed v
-unfoldable pub rowOf : Driven → ℕ
-rowOf d = answerOf d + 4294967296 * d .car .speed
+-- ---- a lesson that gives each word's v too, into a second buffer, for a listing; 19 where one of the two is too short
+abbrev pub speedOf : Driven → ℕ
+speedOf d = d .car .speed
 
-abbrev pub rowsAfter : Car → List ℕ → List ℕ → List ℕ
-rowsAfter c ws buffer = eachAfter rowOf c ws buffer
+unfoldable pub traceShort : List ℕ → List ℕ → List ℕ → Bool
+traceShort ws answers speeds = ltb (length answers) (length ws) || ltb (length speeds) (length ws)
+
+unfoldable pub traceOf : Car → List ℕ → List ℕ → List ℕ → Taught
+traceOf c ws answers speeds =
+    pick (goodOf c)
+    (pick (traceShort ws answers speeds) (untaught c 19) (taughtOf c ws))
+    (untaught c 18)
+
+-- one of its buffers afterwards
+unfoldable pub traceAfter : (Driven → ℕ) → Car → List ℕ → Bool → List ℕ → List ℕ
+traceAfter f c ws short buffer =
+    pick (goodOf c)
+    (pick short buffer (eachOf f c ws ++ drop (length ws) buffer))
+    buffer

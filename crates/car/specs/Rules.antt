@@ -4,13 +4,14 @@
 use mathlib.Core.Bool.{Bool, true, false, _&&_, _||_, not}
 use Prim.Native.Nat.{ℕ, _+_, _-_, min}
 use lib.Dec.{eqb, leb, ltb}
+use Rattle.kit.specs.Bounds.{testPeriod}
 use Rattle.kit.specs.Pick.{pick}
+use Rattle.desired.specs.Desired.{stepped, longHeld, manualAfter, signDesired}
+use Rattle.motion.specs.Speed.{change, moved, atMost}
 use Rattle.car.specs.declared.Car.{Car}
 use Rattle.car.specs.declared.RangeRadar.{RangeRadar}
-use Rattle.car.specs.declared.acceleration.Acceleration.{Acceleration}
-use Rattle.car.specs.Acceleration.{accelerationOf, change}
+use Rattle.car.specs.Acceleration.{accelerationOf}
 use Rattle.car.specs.Car.{ceilingOf, withLevers, withPedals, withLimiter, withCruise, withRadar, withGap}
-use Rattle.car.specs.Lever.{stepped, longHeld}
 
 -- ---- key: "b, g, v, H, S, C, D, E, T, B, W, Y become 0; key on gives P = ready, R = 0 if ready else 255, Q = now; otherwise P = 0, R = 255, Q = 0"
 unfoldable pub keyRadar : ℕ → Bool → ℕ → RangeRadar
@@ -39,10 +40,6 @@ leverDesired c x =
     pick (eqb x 0) (c .cruise .desired)
     (pick (c .cruise .on) (stepped (ceilingOf (c .settings)) x (c .cruise .desired))
     (min (ceilingOf (c .settings)) (c .speed)))
-
--- "Each L event leaving D ≥ 1200 sets E = D"
-unfoldable pub manualAfter : ℕ → ℕ → ℕ
-manualAfter d e = pick (leb 1200 d) d e
 
 -- "then T = now, B = D", and "T and B are 0 unless C = 1 and L is out"
 unfoldable pub whileHeld : Bool → ℕ → ℕ → ℕ
@@ -123,14 +120,6 @@ signActs c =
     c .settings .signs && eqb (c .settings .mode) 2 && c .cruise .on && eqb (c .pedals .gas) 0
     && eqb (c .levers .updown) 0 && eqb (c .levers .foreback) 0
 
--- "200..1300 gives D = s; above 1300 gives 1200 if D < 1200, else E if E > 0, else D. Below 200 nothing"
-unfoldable pub signDesired : ℕ → ℕ → ℕ → ℕ
-signDesired s d e =
-    pick (ltb s 200) d
-    (pick (leb s 1300) s
-    (pick (ltb d 1200) 1200
-    (pick (ltb 0 e) e d)))
-
 unfoldable pub signAfter : Car → ℕ → ℕ
 signAfter c s = pick (signActs c) (signDesired s (c .cruise .desired) (c .cruise .manual)) (c .cruise .desired)
 
@@ -144,7 +133,7 @@ readingTaken c range speed =
 
 -- ---- tick: "now rises by 1. At a test (now = Q + 600, key on) Q = now, P = ready; R = 255 if not ready, 0 if it was 255"
 unfoldable pub testDue : Car → Bool
-testDue c = eqb (c .key) 2 && eqb (c .now + 1) (c .radar .tested + 600)
+testDue c = eqb (c .key) 2 && eqb (c .now + 1) (c .radar .tested + testPeriod)
 
 unfoldable pub rangeAfter : Bool → ℕ → ℕ
 rangeAfter ready range = pick (not ready) 255 (pick (eqb range 255) 0 range)
@@ -169,14 +158,6 @@ holdDesired c h =
 
 unfoldable pub tickDesired : Car → ℕ
 tickDesired c = pick (c .cruise .on) (holdDesired c (c .now + 1 - c .levers .time)) (uncruisedDesired c)
-
--- "v: v + a×36÷10 held to 0..5000"
-unfoldable pub moved : ℕ → Acceleration → ℕ
-moved v a = min 5000 (pick (a .slows) (v - a .size) (v + a .size))
-
--- "at most Z if S", "at most the new D if .."
-unfoldable pub atMost : Bool → ℕ → ℕ → ℕ
-atMost on most v = pick on (min v most) v
 
 -- "C = 1, g = 0 and the old v was at most it"; it is the new D
 unfoldable pub holdsDesired : Car → ℕ → Bool

@@ -3,10 +3,11 @@
 use mathlib.Core.Bool.{Bool, true, false}
 use mathlib.Core.Path.{_≡_}
 use Prim.Native.Nat.{ℕ, _+_, _-_, _≤_, _<_}
+use Rattle.kit.specs.Bounds.{pedalCeiling, speedCeiling, desiredCeiling, lessonLength, testPeriod}
 use Rattle.event.specs.Words.{permittedGap}
+use Rattle.desired.specs.Desired.{held}
 use Rattle.car.specs.declared.Car.{Car}
 use Rattle.car.specs.Car.{ceilingOf}
-use Rattle.car.specs.Lever.{held}
 use Rattle.car.specs.Good.{leverHeld}
 
 -- the fields' ranges
@@ -16,19 +17,19 @@ pub record Ranges (c : Car) : Type 0 where
   pub key : c .key ≤ 2
   pub updown : c .levers .updown ≤ 4
   pub foreback : c .levers .foreback ≤ 2
-  pub brake : c .pedals .brake ≤ 225
-  pub gas : c .pedals .gas ≤ 225
-  pub speed : c .speed ≤ 5000
-  pub limit : c .limiter .limit ≤ 5000
+  pub brake : c .pedals .brake ≤ pedalCeiling
+  pub gas : c .pedals .gas ≤ pedalCeiling
+  pub speed : c .speed ≤ speedCeiling
+  pub limit : c .limiter .limit ≤ speedCeiling
   pub desired : c .cruise .desired ≤ ceilingOf (c .settings)
   pub manual-low : 1 ≤ c .cruise .manual → 1200 ≤ c .cruise .manual
-  pub manual : c .cruise .manual ≤ 2000
+  pub manual : c .cruise .manual ≤ desiredCeiling
   pub base : c .levers .base ≤ ceilingOf (c .settings)
   pub range : c .radar .range ≤ 255
-  pub lead : c .radar .lead ≤ 5000
-  pub earlier : c .radar .earlier ≤ 5000
-  pub now : c .now ≤ 86400
-  pub tested : c .radar .tested ≤ 86400
+  pub lead : c .radar .lead ≤ speedCeiling
+  pub earlier : c .radar .earlier ≤ speedCeiling
+  pub now : c .now ≤ lessonLength
+  pub tested : c .radar .tested ≤ lessonLength
   pub gap : permittedGap (c .gap) ≡ true
 
 -- (a) what is 0 with the key not on; R = 255
@@ -85,6 +86,6 @@ pub record Good (c : Car) : Type 0 where
   pub not-ready : c .radar .ready ≡ false → c .radar .range ≡ 255
   pub ready : c .radar .ready ≡ true → c .radar .range ≡ 255 → ⊥
   -- (e) "Key on: Q ≤ now < Q + 600"
-  pub tested : c .key ≡ 2 → (c .radar .tested ≤ c .now) × (c .now < c .radar .tested + 600)
+  pub tested : c .key ≡ 2 → (c .radar .tested ≤ c .now) × (c .now < c .radar .tested + testPeriod)
   -- (f) "C = 1, L out: .. D is the tick's formula, or B for h below 2", with h = now − T
   pub hold : leverHeld c ≡ true → c .cruise .desired ≡ held (ceilingOf (c .settings)) (c .levers .updown) (c .levers .base) (c .now - c .levers .time)

@@ -1,13 +1,15 @@
 // Secure distance, "ahead", "close" and the two warnings (document 01, "Rules of each event").
 ghost use mathlib.Core.Path.{_≡_};
 ghost use Prim.Native.Nat.{_≤_};
-ghost use Rattle.car.specs.Distance.{metres, secureDistance, following, ahead, within, close, visual, acoustic};
+ghost use Rattle.kit.specs.Bounds.{speedCeiling};
+ghost use Rattle.car.specs.DistanceShape.{following};
+ghost use Rattle.car.specs.Distance.{metres, secureDistance, ahead, within, close, visual, acoustic};
 ghost use Rattle.car.specs.Standing.{Ranges};
 use crate::Car;
 
 // The way in metres at a speed, in a time of tenths of a second: worked in 64 bits.
 fn metres(tenths: u32, speed: u32) -> u32
-    requires { ⌜ (tenths ≤ 30) × (speed ≤ 5000) ⌝ }
+    requires { ⌜ (tenths ≤ 30) × (speed ≤ speedCeiling) ⌝ }
     ensures { λ r. ⌜ r ≡ metres tenths speed ⌝ }
 {
     ((tenths as u64) * (speed as u64) / 360) as u32
@@ -68,6 +70,9 @@ impl Car {
         requires { ⌜ Ranges self ⌝ }
         ensures { λ r. ⌜ r ≡ visual self ⌝ }
     {
+        if !self.ahead() {
+            return false;
+        }
         self.within(metres(15, self.speed))
     }
 
@@ -75,6 +80,9 @@ impl Car {
         requires { ⌜ Ranges self ⌝ }
         ensures { λ r. ⌜ r ≡ acoustic self ⌝ }
     {
+        if !self.ahead() {
+            return false;
+        }
         self.within(metres(8, self.speed))
     }
 }

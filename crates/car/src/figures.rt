@@ -1,9 +1,9 @@
 // The figures that the dials show of a car.
 ghost use mathlib.Core.Path.{_≡_};
 ghost use Rattle.car.specs.Figures.{figuresOf, shown};
-ghost use Rattle.car.specs.Standing.{Ranges};
+ghost use Rattle.car.specs.Standing.{Good};
 use crate::Car;
-use crate::acceleration::Acceleration;
+use motion::Acceleration;
 
 pub struct Figures {
     pub refusal: u32,
@@ -17,7 +17,7 @@ pub struct Figures {
 
 impl Car {
     fn shown(self) -> Figures
-        requires { ⌜ Ranges self ⌝ }
+        requires { ⌜ Good self ⌝ }
         ensures { λ r. ⌜ r ≡ shown self ⌝ }
     {
         let acceleration = self.acceleration();

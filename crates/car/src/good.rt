@@ -1,15 +1,15 @@
 // The good-car test: a car that an accepted record gives (document 01, "Standing rules" and "The record").
 ghost use mathlib.Core.Path.{_≡_};
-ghost use Rattle.car.specs.Good.{numbersOf, rangesOf, timesOf, ruleA, ruleB, ruleC, ruleD, ruleE, ruleF, obeysOf, goodOf};
+ghost use Rattle.car.specs.Good.{positionsOf, numbersOf, rangesOf, timesOf, offOf, ruleA, ruleB, ruleC, ruleD, ruleE, ruleF, obeysOf, goodOf};
 ghost use Rattle.car.specs.Standing.{Ranges};
 use crate::Car;
 use crate::ceiling;
-use crate::lever::held;
-use crate::number::less;
+use desired::held;
+use number::less;
 
 impl Car {
-    fn numbers(self, top: u32) -> bool
-        ensures { λ r. ⌜ r ≡ numbersOf top self ⌝ }
+    fn positions(self) -> bool
+        ensures { λ r. ⌜ r ≡ positionsOf self ⌝ }
     {
         (1 <= self.settings.mode)
             & (self.settings.mode <= 2)
@@ -18,7 +18,12 @@ impl Car {
             & (self.levers.foreback <= 2)
             & (self.pedals.brake <= Car::PEDAL_CEILING)
             & (self.pedals.gas <= Car::PEDAL_CEILING)
-            & (self.speed <= Car::SPEED_CEILING)
+    }
+
+    fn numbers(self, top: u32) -> bool
+        ensures { λ r. ⌜ r ≡ numbersOf top self ⌝ }
+    {
+        (self.speed <= Car::SPEED_CEILING)
             & (self.limiter.limit <= Car::SPEED_CEILING)
             & (self.cruise.desired <= top)
             & ((self.cruise.manual == 0) | (1200 <= self.cruise.manual))
@@ -34,7 +39,7 @@ impl Car {
     fn ranges(self) -> bool
         ensures { λ r. ⌜ r ≡ rangesOf self ⌝ }
     {
-        self.numbers(ceiling(self.settings)) & event::permitted_gap(self.gap)
+        self.positions() & self.numbers(ceiling(self.settings)) & event::permitted_gap(self.gap)
     }
 
     // The rule on T and B, and T ≤ now.
@@ -46,26 +51,30 @@ impl Car {
             & (self.levers.time <= self.now)
     }
 
+    fn off(self) -> bool
+        ensures { λ r. ⌜ r ≡ offOf self ⌝ }
+    {
+        (self.pedals.brake == 0)
+            & (self.pedals.gas == 0)
+            & (self.speed == 0)
+            & (self.cruise.desired == 0)
+            & (self.cruise.manual == 0)
+            & !self.limiter.button
+            & !self.limiter.on
+            & !self.cruise.on
+            & (self.levers.time == 0)
+            & (self.levers.base == 0)
+            & !self.radar.ready
+            & (self.radar.lead == 0)
+            & (self.radar.earlier == 0)
+            & (self.radar.tested == 0)
+            & (self.radar.range == 255)
+    }
+
     fn rule_a(self) -> bool
         ensures { λ r. ⌜ r ≡ ruleA self ⌝ }
     {
-        ((self.pedals.brake == 0) | (self.pedals.gas == 0))
-            & ((self.key == 2)
-                | ((self.pedals.brake == 0)
-                    & (self.pedals.gas == 0)
-                    & (self.speed == 0)
-                    & (self.cruise.desired == 0)
-                    & (self.cruise.manual == 0)
-                    & !self.limiter.button
-                    & !self.limiter.on
-                    & !self.cruise.on
-                    & (self.levers.time == 0)
-                    & (self.levers.base == 0)
-                    & !self.radar.ready
-                    & (self.radar.lead == 0)
-                    & (self.radar.earlier == 0)
-                    & (self.radar.tested == 0)
-                    & (self.radar.range == 255)))
+        ((self.pedals.brake == 0) | (self.pedals.gas == 0)) & ((self.key == 2) | self.off())
     }
 
     fn rule_b(self) -> bool

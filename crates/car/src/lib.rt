@@ -2,17 +2,15 @@
 // A comment at each field gives the document's letter. Speeds are in tenths of km/h, times in seconds, ranges in metres. The fields'
 // order is the one of several tried of which the compiler makes the fastest lesson; nothing else rests on it.
 ghost use mathlib.Core.Path.{_≡_};
-ghost use Rattle.car.specs.Car.{freshOf, freshCar, ceilingOf};
+ghost use Rattle.car.specs.Car.{freshAnswer, freshOf, freshCar, ceilingOf};
 
-pub mod acceleration;
-mod checks;
+mod acceleration;
+mod check;
 mod distance;
 pub mod drive;
 pub mod figures;
 mod good;
 pub mod lesson;
-mod lever;
-mod number;
 mod rules;
 mod tick;
 
@@ -73,18 +71,18 @@ pub enum Fresh {
 }
 
 impl Car {
-    pub const PEDAL_CEILING: u32 = 225;
+    pub const PEDAL_CEILING: u32 = number::bound::PEDAL;
 
-    pub const SPEED_CEILING: u32 = 5000;
+    pub const SPEED_CEILING: u32 = number::bound::SPEED;
 
     pub const DESIRED_CEILING: u32 = 2000;
 
     pub const TEST_PERIOD: u32 = 600;
 
-    pub const LESSON_LENGTH: u32 = 86_400;
+    pub const LESSON_LENGTH: u32 = checks::LESSON_LENGTH;
 
     pub fn fresh(mode: u32, signs: u32) -> Fresh
-        ensures { λ r. ⌜ r ≡ freshOf mode signs ⌝ }
+        ensures { λ r. ⌜ freshAnswer r ≡ freshOf mode signs ⌝ }
     {
         if ((mode != 1) & (mode != 2)) | (signs > 1) {
             return Fresh::Refused(event::refusal::SETTINGS);

@@ -1,14 +1,16 @@
 // The rules of the nine events beside the tick (document 01, "Rules of each event"): one method for each, the car in whole and back whole.
 ghost use mathlib.Core.Path.{_≡_};
-ghost use Rattle.car.specs.Rules.{keyRadar, keyTurned, leverDesired, manualAfter, whileHeld, upDownMoved, engages, startDesired, engaged, forward, backward, foreBackMoved, brakePressed, gasPressed, buttonPressed, gapChosen, signActs, signDesired, signAfter, signPassed, readingTaken};
+ghost use Rattle.car.specs.Rules.{keyRadar, keyTurned, leverDesired, whileHeld, upDownMoved, engages, startDesired, engaged, forward, backward, foreBackMoved, brakePressed, gasPressed, buttonPressed, gapChosen, signActs, signAfter, signPassed, readingTaken};
 use crate::Car;
 use crate::Cruise;
 use crate::Limiter;
 use crate::Pedals;
 use crate::RangeRadar;
 use crate::ceiling;
-use crate::lever::stepped;
-use crate::number::least;
+use desired::manual_after;
+use desired::sign_desired;
+use desired::stepped;
+use number::least;
 
 fn key_radar(position: u32, ready: bool, now: u32) -> RangeRadar
     ensures { λ r. ⌜ r ≡ keyRadar position ready now ⌝ }
@@ -31,15 +33,6 @@ fn key_radar(position: u32, ready: bool, now: u32) -> RangeRadar
     }
 }
 
-fn manual_after(desired: u32, manual: u32) -> u32
-    ensures { λ r. ⌜ r ≡ manualAfter desired manual ⌝ }
-{
-    if desired >= 1200 {
-        return desired;
-    }
-    manual
-}
-
 // The number if cruise is on and the lever is put out, else 0.
 fn while_held(on: bool, position: u32, n: u32) -> u32
     ensures { λ r. ⌜ r ≡ whileHeld on position n ⌝ }
@@ -48,25 +41,6 @@ fn while_held(on: bool, position: u32, n: u32) -> u32
         return n;
     }
     0
-}
-
-// D by a sign, by its value, D and E.
-fn sign_desired(sign: u32, desired: u32, manual: u32) -> u32
-    ensures { λ r. ⌜ r ≡ signDesired sign desired manual ⌝ }
-{
-    if sign < 200 {
-        return desired;
-    }
-    if sign <= 1300 {
-        return sign;
-    }
-    if desired < 1200 {
-        return 1200;
-    }
-    if manual > 0 {
-        return manual;
-    }
-    desired
 }
 
 impl Car {

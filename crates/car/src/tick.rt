@@ -1,16 +1,23 @@
 // The tick (document 01, "Rules of each event"): one second.
 ghost use mathlib.Core.Path.{_≡_};
-ghost use Prim.Native.Nat.{_≤_};
-ghost use Rattle.car.specs.Acceleration.{accelerationOf, accelerationCode};
-ghost use Rattle.car.specs.Code.{movedBy};
-ghost use Rattle.car.specs.Rules.{testDue, rangeAfter, radarTested, radarAfter, holdDesired, tickDesired, atMost, holdsDesired, tickSpeed, ticked};
+ghost use mathlib.Core.Bool.{_&&_};
+ghost use lib.Dec.{eqb, leb};
+ghost use Prim.Native.Nat.{_+_, _-_, _≤_};
+ghost use Rattle.kit.specs.Bounds.{speedCeiling};
+ghost use Rattle.motion.specs.Acceleration.{accelerationCode};
+ghost use Rattle.motion.specs.AccelerationShape.{movedBy};
+ghost use Rattle.motion.specs.Speed.{atMost};
+ghost use Rattle.car.specs.Acceleration.{accelerationOf};
+ghost use Rattle.car.specs.LessonShape.{secondPassed, radarTried};
+ghost use Rattle.car.specs.Rules.{testDue, rangeAfter, radarTested, holdDesired, tickDesired, tickSpeed};
 ghost use Rattle.car.specs.Standing.{Ranges};
 use crate::Car;
 use crate::RangeRadar;
 use crate::ceiling;
-use crate::lever::long_held;
-use crate::number::least;
-use crate::number::less;
+use desired::long_held;
+use motion::at_most;
+use number::least;
+use number::less;
 
 fn range_after(ready: bool, range: u32) -> u32
     ensures { λ r. ⌜ r ≡ rangeAfter ready range ⌝ }
@@ -35,8 +42,8 @@ fn tested(mut radar: RangeRadar, ready: bool, now: u32) -> RangeRadar
 }
 
 // v after a second of the acceleration, by its code.
-fn moved(speed: u32, code: u32) -> u32
-    requires { ⌜ (speed ≤ 5000) × (code ≤ 127) ⌝ }
+fn speed_after(speed: u32, code: u32) -> u32
+    requires { ⌜ (speed ≤ speedCeiling) × (code ≤ 127) ⌝ }
     ensures { λ r. ⌜ r ≡ movedBy speed code ⌝ }
 {
     if code < 60 {
@@ -45,13 +52,10 @@ fn moved(speed: u32, code: u32) -> u32
     least(Car::SPEED_CEILING, speed + (code - 60) * 36 / 10)
 }
 
-fn at_most(on: bool, most: u32, speed: u32) -> u32
-    ensures { λ r. ⌜ r ≡ atMost on most speed ⌝ }
-{
-    if on {
-        return least(speed, most);
-    }
-    speed
+// D and v after a second.
+pub(crate) struct Moved {
+    pub(crate) desired: u32,
+    pub(crate) speed: u32,
 }
 
 impl Car {
@@ -63,70 +67,79 @@ impl Car {
         (self.key == 2) & (self.now + 1 == self.radar.tested + Car::TEST_PERIOD)
     }
 
-    fn radar_after(self, ready: bool) -> RangeRadar
+    // D after a second with cruise on, where the lever may be held.
+    fn hold_desired(self) -> u32
         requires { ⌜ Ranges self ⌝ }
-        ensures { λ r. ⌜ r ≡ radarAfter self ready ⌝ }
+        ensures { λ r. ⌜ r ≡ holdDesired self (self .now + 1 - self .levers .time) ⌝ }
     {
-        let radar = self.radar;
-        if self.test_due() {
-            return tested(radar, ready, self.now + 1);
+        if self.levers.updown == 0 {
+            return self.cruise.desired;
         }
-        radar
+        self.held_for(less(self.now + 1, self.levers.time))
     }
 
     // D after h seconds with the lever out.
-    fn hold_desired(self, h: u32) -> u32
-        requires { ⌜ h ≤ 86401 ⌝ }
+    fn held_for(self, h: u32) -> u32
+        requires { ⌜ (self .levers .updown ≡ 0 → ⊥) ⌝ }
         ensures { λ r. ⌜ r ≡ holdDesired self h ⌝ }
     {
-        if (self.levers.updown != 0) & (h >= 2) {
-            return long_held(
-                ceiling(self.settings),
-                self.levers.updown,
-                self.levers.base,
-                h,
-            );
+        if h < 2 {
+            return self.cruise.desired;
         }
-        self.cruise.desired
+        long_held(
+            ceiling(self.settings),
+            self.levers.updown,
+            self.levers.base,
+            h,
+        )
     }
 
-    fn tick_desired(self) -> u32
-        requires { ⌜ Ranges self ⌝ }
-        ensures { λ r. ⌜ r ≡ tickDesired self ⌝ }
+    // v after a second with cruise on, by D after it and by v as the limiter leaves it.
+    fn held_to(self, desired: u32, limited: u32) -> u32
+        ensures { λ r. ⌜ r ≡ atMost (eqb (self .pedals .gas) 0 && leb (self .speed) desired) desired limited ⌝ }
     {
-        if self.cruise.on {
-            return self.hold_desired(less(self.now + 1, self.levers.time));
-        }
-        0
+        let holds = (self.pedals.gas == 0) & (self.speed <= desired);
+        at_most(holds, desired, limited)
     }
 
-    fn holds_desired(self, desired: u32) -> bool
-        ensures { λ r. ⌜ r ≡ holdsDesired self desired ⌝ }
-    {
-        self.cruise.on & (self.pedals.gas == 0) & (self.speed <= desired)
-    }
-
-    // The code is that of the car's acceleration.
-    fn tick_speed(self, code: u32, desired: u32) -> u32
+    // D and v after a second. The code is that of the car's acceleration.
+    pub(crate) fn moved(self, code: u32) -> Moved
         requires { ⌜ Ranges self × (code ≡ accelerationCode (accelerationOf self)) ⌝ }
-        ensures { λ r. ⌜ r ≡ tickSpeed self desired ⌝ }
+        ensures { λ r. ⌜ r ≡ record { desired = tickDesired self; speed = tickSpeed self (tickDesired self) } ⌝ }
     {
-        let free = moved(self.speed, code);
+        let free = speed_after(self.speed, code);
         let limited = at_most(self.limiter.on, self.limiter.limit, free);
-        at_most(self.holds_desired(desired), desired, limited)
+        if !self.cruise.on {
+            return Moved {
+                desired: 0,
+                speed: limited,
+            };
+        }
+        let desired = self.hold_desired();
+        Moved {
+            desired: desired,
+            speed: self.held_to(desired, limited),
+        }
     }
 
-    pub(crate) fn tick(mut self, code: u32, ready: bool) -> Car
-        requires { ⌜ Ranges self × (code ≡ accelerationCode (accelerationOf self)) ⌝ }
-        ensures { λ r. ⌜ r ≡ ticked self ready ⌝ }
+    // A second passes.
+    pub(crate) fn tick(mut self, moved: Moved) -> Car
+        requires { ⌜ Ranges self ⌝ }
+        ensures { λ r. ⌜ r ≡ secondPassed self (moved .desired) (moved .speed) ⌝ }
     {
-        let desired = self.tick_desired();
-        let speed = self.tick_speed(code, desired);
-        let radar = self.radar_after(ready);
-        self.cruise.desired = desired;
-        self.speed = speed;
-        self.radar = radar;
+        self.cruise.desired = moved.desired;
+        self.speed = moved.speed;
         self.now = self.now + 1;
+        self
+    }
+
+    // The radar is tested in the second that has passed.
+    pub(crate) fn test_radar(mut self, ready: bool) -> Car
+        ensures { λ r. ⌜ r ≡ radarTried self ready ⌝ }
+    {
+        let radar = self.radar;
+        let after = tested(radar, ready, self.now);
+        self.radar = after;
         self
     }
 }

@@ -14,10 +14,42 @@
 extern "C" {
 #endif
 
-/* A fresh car from its settings, mode 1 (normal cruise) or 2 (adaptive), signs 0 or 1: its record into the buffer's first twelve words;
-   the words past the twelfth are kept.
-   17 settings outside their values. 20 record buffer under 12 words, kept. */
-uint32_t cruise_fresh(uint32_t mode, uint32_t signs, uint32_t *record, size_t length);
+/* The refusals, in document 01's words. */
+enum {
+    CRUISE_ACCEPTED = 0,
+    /* Whoever wrote the file. */
+    CRUISE_NO_SUCH_KIND = 1, /* no such kind */
+    CRUISE_UNNAMED_BIT = 2,  /* an unnamed bit set */
+    CRUISE_OUT_OF_RANGE = 3, /* a value outside its field's range */
+    /* The pupil. */
+    CRUISE_KEY_NOT_ON = 4,             /* key not on (kinds 4 to 9) */
+    CRUISE_ALREADY_HELD = 5,           /* value already held (kinds 1 to 5) */
+    CRUISE_KEY_WHILE_MOVING = 6,       /* key moved while v > 0 */
+    CRUISE_POSITION_SKIPPED = 7,       /* key from 0 to 2 or 2 to 0; L from up to down or back; M between forward and backward */
+    CRUISE_OTHER_LEVER_OUT = 8,        /* L moved while M is out of neutral, or M while L is */
+    CRUISE_OTHER_PEDAL_DOWN = 9,       /* brake while g > 0, gas while b > 0 */
+    CRUISE_BUTTON_IN = 10,             /* button: H = 1 */
+    CRUISE_BUTTON_WHILE_BACKWARD = 11, /* button: M = 2 */
+    CRUISE_BUTTON_WHILE_GAS = 12,      /* button: g > 90 */
+    CRUISE_ABOVE_LIMIT = 13,           /* button: v above the limit given */
+    /* The radar. */
+    CRUISE_RADAR_NOT_READY = 14, /* a reading while P = 0 */
+    CRUISE_READY_BIT = 15,       /* a key word with ready 1 and a key other than 2; or a tick whose ready differs from P, unless key is on
+                                    and now + 1 = Q + 600 */
+    /* The clock. */
+    CRUISE_CLOCK_AT_END = 16, /* a tick at 86,400 */
+    /* Whoever calls. */
+    CRUISE_SETTINGS = 17,      /* settings outside their values (no car) */
+    CRUISE_NOT_ACCEPTED = 18,  /* a record not of 12 words or not accepted */
+    CRUISE_SHORT_ANSWERS = 19, /* answer buffer shorter than the words */
+    CRUISE_SHORT_RECORD = 20,  /* record buffer under 12 words */
+    CRUISE_CUT_WORD = 21       /* file ends inside a word: no function gives it */
+};
+
+/* A fresh car from its settings word, 0xD0000000 | mode | signs << 2, with mode 1 (normal cruise) or 2 (adaptive) and signs 0 or 1: its
+   record into the buffer's first twelve words; the words past the twelfth are kept.
+   17 any other word. 20 record buffer under 12 words, kept. */
+uint32_t cruise_fresh(uint32_t settings, uint32_t *record, size_t length);
 
 /* One event word: the record becomes that of the next car. A refused event changes no field.
    18 a record not of 12 words or not accepted, kept. 1 to 16 the event is refused. */

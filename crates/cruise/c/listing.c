@@ -12,8 +12,8 @@ static const uint32_t words[] = {0xD0000001, 0x10000001, 0x10000006, 0x500000E1,
 int main(void)
 {
     uint32_t record[12];
-    uint32_t refusal = cruise_fresh(words[0] & 3, words[0] >> 2 & 1, record, 12);
-    if (refusal != 0) {
+    uint32_t refusal = cruise_fresh(words[0], record, 12);
+    if (refusal != CRUISE_ACCEPTED) {
         printf("refused %" PRIu32 "\n", refusal);
         return 1;
     }

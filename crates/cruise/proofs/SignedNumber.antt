@@ -9,8 +9,8 @@ use mir.Syntax.{w32}
 use mir.Val.{SFits, toZ, ofZ}
 use mir.ValLaws.{toZ-pos, toZ-ofZ}
 use Rattle.kit.specs.Pick.{pick, pick-true, pick-false}
-use Rattle.car.specs.declared.acceleration.Acceleration.{Acceleration}
-use Rattle.car.specs.Acceleration.{signed}
+use Rattle.motion.specs.declared.Acceleration.{Acceleration}
+use Rattle.motion.specs.Acceleration.{signed}
 
 minus-fits : (n : ℕ) → n ≤ 60 → SFits w32 (negℤ (pos n))
 minus-fits zero h = record { sfits = omega arith }

@@ -3,31 +3,29 @@
 use mathlib.Core.Bool.{true}
 use mathlib.Core.List.{List, [], _∷_}
 use mathlib.Core.Path.{_≡_, refl}
-use Prim.Native.Nat.{ℕ, _%_, _≤_}
+use Prim.Native.Nat.{ℕ, _≤_}
 use native.Mathlib.Omega.{arith}
 use lib.ListN.{getD}
-use Rattle.kit.specs.Pick.{pick, pick-true, pick-case}
+use Rattle.kit.specs.Answer.{Answer, gives, refused}
+use Rattle.kit.specs.Pick.{pick, pick-case}
+use Rattle.answer.specs.declared.Answer as answer
+use Rattle.answer.specs.AnswerWord as answerword
 use Rattle.car.specs.declared.Car.{Car}
 use Rattle.car.specs.declared.figures.Figures.{Figures}
 use Rattle.car.specs.AccelerationLaws.{acceleration-size}
-use Rattle.car.specs.Drive.{stepOf, driveOf}
+use Rattle.car.specs.AnswerLaws.{step-shows}
+use Rattle.car.specs.Drive.{stepOf}
 use Rattle.car.specs.Figures.{figuresOf, shown, noFigures}
 use Rattle.car.specs.Good.{goodOf}
 use Rattle.car.specs.GoodLaws.{good}
-use Rattle.car.specs.Lesson.{answerWord, answerOf, driven, eachOf, eachAfter, answersAfter, taughtOf, lessonOf}
-use Rattle.car.specs.LessonLaws.{refusal-le}
-use Rattle.record.specs.declared.Reading.{Reading}
-use Rattle.record.specs.declared.Reading.the-variants.{Loaded, Refused}
+use Rattle.car.specs.Lesson.{answerOf, driven, eachOf, eachAfter, answersAfter, taughtOf, lessonOf}
+use Rattle.car.specs.StepLaws.{drive-step}
 use Rattle.record.specs.Record.{readOf}
-use Rattle.record.specs.RecordLaws.{refused-18, read-written}
+use Rattle.record.specs.RecordLaws.{refused-18, read-packed}
 use Rattle.record.specs.RecordLesson.{LessonLeft, lessonLeft}
 use Rattle.cruise.specs.Cruise.{Left, driveLeft, figuresRead}
 
 -- ---- one event word is a lesson of one word, whose answer word holds the refusal in bits 0-4
-answer-refusal : (c : Car) (w : ℕ) → answerOf (stepOf c w) % 32 ≡ stepOf c w .refusal
-unfolding answerOf answerWord
-answer-refusal c w = omega (arith, refusal-le c w)
-
 module _ (c : Car) (w : ℕ) (g : goodOf c ≡ true) where
   lesson-one : lessonOf c (w ∷ []) (0 ∷ []) ≡ taughtOf c (w ∷ [])
   unfolding lessonOf pick
@@ -37,12 +35,8 @@ module _ (c : Car) (w : ℕ) (g : goodOf c ≡ true) where
   unfolding eachAfter eachOf pick
   answers-one = rw g
 
-  drive-step : driveOf c w ≡ stepOf c w
-  unfolding driveOf
-  drive-step = pick-true _ _ _ g
-
 module _ (words : List ℕ) (w : ℕ) where
-  abbrev one : Reading → LessonLeft
+  abbrev one : Answer Car → LessonLeft
   one r = lessonLeft words r (w ∷ []) (0 ∷ [])
 
   pub drive-refused : (l : LessonLeft) → l ≡ one (readOf words) → (l .refusal ≡ 0 → ⊥)
@@ -50,22 +44,22 @@ module _ (words : List ℕ) (w : ℕ) where
   unfolding lessonLeft driveLeft taughtOf
   drive-refused l e n = rw e (go (readOf words) refl (λ z. n (rw e z)))
     where
-      go : (r : Reading) → readOf words ≡ r → (one r .refusal ≡ 0 → ⊥)
+      go : (r : Answer Car) → readOf words ≡ r → (one r .refusal ≡ 0 → ⊥)
           → _≡_ {A = Left} (record { refusal = one r .refusal; words = one r .words }) (driveLeft words r w)
-      go (Loaded c) h z = absurd (z (rw (lesson-one c w (read-written words c h .1))))
-      go (Refused n) h z = refl
+      go (gives c) h z = absurd (z (rw (lesson-one c w (read-packed words c h .1))))
+      go (refused n) h z = refl
 
-  pub drive-answered : (l : LessonLeft) → l ≡ one (readOf words) → l .refusal ≡ 0
-      → _≡_ {A = Left} (record { refusal = getD (l .answers) 0 0 % 32; words = l .words }) (driveLeft words (readOf words) w)
-  unfolding lessonLeft driveLeft taughtOf driven
-  drive-answered l e z = rw e (go (readOf words) refl (rw e at z))
+  pub drive-answered : (l : LessonLeft) (a : answer.Answer) → l ≡ one (readOf words) → l .refusal ≡ 0 → a ≡ answerword.readOf (getD (l .answers) 0 0)
+      → _≡_ {A = Left} (record { refusal = a .refusal; words = l .words }) (driveLeft words (readOf words) w)
+  unfolding lessonLeft driveLeft taughtOf driven answerword.readOf
+  drive-answered l a e z ea = rw (ea, e) (go (readOf words) refl (rw e at z))
     where
-      go : (r : Reading) → readOf words ≡ r → one r .refusal ≡ 0
-          → _≡_ {A = Left} (record { refusal = getD (one r .answers) 0 0 % 32; words = one r .words }) (driveLeft words r w)
-      go (Loaded c) h y =
-          let g = read-written words c h .1 in
-          rw (lesson-one c w g, answers-one c w g, drive-step c w g, answer-refusal c w)
-      go (Refused n) h y = let e = refused-18 words n h .0 in absurd (omega arith)
+      go : (r : Answer Car) → readOf words ≡ r → one r .refusal ≡ 0
+          → _≡_ {A = Left} (record { refusal = answerword.readOf (getD (one r .answers) 0 0) .refusal; words = one r .words }) (driveLeft words r w)
+      go (gives c) h y =
+          let g = read-packed words c h .1 in
+          rw (lesson-one c w g, answers-one c w g, drive-step c w g, step-shows c w g .refusal)
+      go (refused n) h y = let e = refused-18 words n h .0 in absurd (omega arith)
 
 -- a figure's acceleration fits
 figures-small : (c : Car) → figuresOf c .acceleration .size ≤ 60
@@ -75,7 +69,7 @@ figures-small c =
     (λ t. let small = acceleration-size c (good c t .ranges) in omega arith)
     (λ t. omega arith)
 
-pub dial-small : (r : Reading) → figuresRead r .acceleration .size ≤ 60
+pub dial-small : (r : Answer Car) → figuresRead r .acceleration .size ≤ 60
 unfolding figuresRead
-dial-small (Loaded c) = figures-small c
-dial-small (Refused n) = omega arith
+dial-small (gives c) = figures-small c
+dial-small (refused n) = omega arith

@@ -1,72 +1,73 @@
 // The car for programs in other languages (c/cruise.h). A car crosses as the twelve words of its record; every function gives the
-// refusal's number, or 0.
+// refusal's number, or 0. Parameters are named as there; in a contract `record` is `«record»`, for antt has a word `record` of its own.
 ghost use mathlib.Core.Path.{_≡_};
 ghost use Prim.Native.Nat.{_≤_};
-ghost use Rattle.car.specs.Acceleration.{signed};
-ghost use Rattle.car.specs.Car.{freshOf};
-ghost use Rattle.record.specs.declared.Reading.the-variants.{Loaded, Refused};
-ghost use Rattle.record.specs.Record.{readOf};
+ghost use Rattle.motion.specs.Acceleration.{signed};
+ghost use Rattle.kit.specs.Answer.{gives, refused, numberOf};
+ghost use Rattle.settings.specs.SettingsWord.{startOf};
+ghost use Rattle.record.specs.Record.{readingAnswer, readOf};
 ghost use Rattle.record.specs.RecordLesson.{LessonLeft, lessonLeft};
-ghost use Rattle.cruise.specs.Cruise.{Left, freshLeft, driveLeft, testOf, figuresRead, Dials, dialsOf, alikeRefusal, alikeAnswer};
+ghost use Rattle.cruise.specs.Cruise.{Left, freshLeft, driveLeft, figuresRead, Dials, dialsOf, alikeRefusal, alikeAnswer};
 use car::Car;
 use car::Fresh;
-use car::acceleration::Acceleration;
 use car::figures::Figures;
+use motion::Acceleration;
 use record::Reading;
 
 #[no_mangle]
-pub extern "C" fn cruise_fresh(mode: u32, signs: u32, words: &mut [u32]) -> u32
-    ensures { λ r. ⌜ _≡_ {A = Left} (record { refusal = r; words = now (words .exit) }) (freshLeft (now (words .entry)) (freshOf mode signs)) ⌝ }
+pub extern "C" fn cruise_fresh(settings: u32, record: &mut [u32]) -> u32
+    ensures { λ r. ⌜ _≡_ {A = Left} (record { refusal = r; words = now («record» .exit) }) (freshLeft (now («record» .entry)) (startOf settings)) ⌝ }
 {
-    match Car::fresh(mode, signs) {
-        Fresh::Made(car) => record::write_into(car, words),
+    match settings::start(settings) {
+        Fresh::Made(car) => record::write_into(car, record),
         Fresh::Refused(n) => n,
     }
 }
 
 #[no_mangle]
 pub extern "C" fn cruise_lesson(
-    words: &mut [u32],
-    events: &[u32],
+    record: &mut [u32],
+    words: &[u32],
     answers: &mut [u32],
     accepted: &mut usize,
     refused: &mut usize,
 ) -> u32
-    ensures { λ r. ⌜ _≡_ {A = LessonLeft} (record { refusal = r; words = now (words .exit); answers = now (answers .exit); accepted = now (accepted .exit); refused = now (refused .exit) }) (lessonLeft (now (words .entry)) (readOf (now (words .entry))) (now (events .entry)) (now (answers .entry))) ⌝ }
+    ensures { λ r. ⌜ _≡_ {A = LessonLeft} (record { refusal = r; words = now («record» .exit); answers = now (answers .exit); accepted = now (accepted .exit); refused = now (refused .exit) }) (lessonLeft (now («record» .entry)) (readOf (now («record» .entry))) (now (words .entry)) (now (answers .entry))) ⌝ }
 {
-    let lesson = record::lesson(words, events, answers);
+    let lesson = record::lesson(record, words, answers);
     *accepted = lesson.accepted;
     *refused = lesson.refused;
     lesson.refusal
 }
 
-// A lesson of one word. Its answer word holds the word's refusal in bits 0-4.
+// A lesson of one word. Its answer word holds the word's refusal.
 #[no_mangle]
-pub extern "C" fn cruise_drive(words: &mut [u32], word: u32) -> u32
-    ensures { λ r. ⌜ _≡_ {A = Left} (record { refusal = r; words = now (words .exit) }) (driveLeft (now (words .entry)) (readOf (now (words .entry))) word) ⌝ }
+pub extern "C" fn cruise_drive(record: &mut [u32], word: u32) -> u32
+    ensures { λ r. ⌜ _≡_ {A = Left} (record { refusal = r; words = now («record» .exit) }) (driveLeft (now («record» .entry)) (readOf (now («record» .entry))) word) ⌝ }
 {
-    let mut answer = [0; 1];
+    let mut answers = [0; 1];
     let mut accepted = 0;
     let mut refused = 0;
-    let refusal = cruise_lesson(words, &[word], &mut answer, &mut accepted, &mut refused);
+    let refusal = cruise_lesson(record, &[word], &mut answers, &mut accepted, &mut refused);
     if refusal != 0 {
         return refusal;
     }
-    answer[0] % 32
+    let answer = answer::read(answers[0]);
+    answer.refusal
 }
 
 #[no_mangle]
-pub extern "C" fn cruise_test(words: &[u32]) -> u32
-    ensures { λ r. ⌜ r ≡ testOf (readOf (now (words .entry))) ⌝ }
+pub extern "C" fn cruise_test(record: &[u32]) -> u32
+    ensures { λ r. ⌜ r ≡ numberOf (readOf (now («record» .entry))) ⌝ }
 {
-    match record::read_from(words) {
+    match record::read_from(record) {
         Reading::Loaded(_) => 0,
         Reading::Refused(n) => n,
     }
 }
 
 fn no_figures(refusal: u32) -> Figures
-    ensures { λ r. ⌜ r ≡ figuresRead (Refused refusal) ⌝ }
+    ensures { λ r. ⌜ r ≡ figuresRead (refused refusal) ⌝ }
 {
     Figures {
         refusal: refusal,
@@ -82,10 +83,10 @@ fn no_figures(refusal: u32) -> Figures
     }
 }
 
-fn figures(words: &[u32]) -> Figures
-    ensures { λ r. ⌜ r ≡ figuresRead (readOf (now (words .entry))) ⌝ }
+fn figures(record: &[u32]) -> Figures
+    ensures { λ r. ⌜ r ≡ figuresRead (readOf (now («record» .entry))) ⌝ }
 {
-    match record::read_from(words) {
+    match record::read_from(record) {
         Reading::Loaded(car) => car.figures(),
         Reading::Refused(n) => no_figures(n),
     }
@@ -104,7 +105,7 @@ fn signed(a: Acceleration) -> i32
 
 #[no_mangle]
 pub extern "C" fn cruise_figures(
-    words: &[u32],
+    record: &[u32],
     speed: &mut u32,
     desired: &mut u32,
     acceleration: &mut i32,
@@ -112,9 +113,9 @@ pub extern "C" fn cruise_figures(
     acoustic: &mut u32,
     distance: &mut u32,
 ) -> u32
-    ensures { λ r. ⌜ _≡_ {A = Dials} (record { refusal = r; speed = now (speed .exit); desired = now (desired .exit); acceleration = now (acceleration .exit); visual = now (visual .exit); acoustic = now (acoustic .exit); distance = now (distance .exit) }) (dialsOf (figuresRead (readOf (now (words .entry))))) ⌝ }
+    ensures { λ r. ⌜ _≡_ {A = Dials} (record { refusal = r; speed = now (speed .exit); desired = now (desired .exit); acceleration = now (acceleration .exit); visual = now (visual .exit); acoustic = now (acoustic .exit); distance = now (distance .exit) }) (dialsOf (figuresRead (readOf (now («record» .entry))))) ⌝ }
 {
-    let figures = figures(words);
+    let figures = figures(record);
     let a = signed(figures.acceleration);
     *speed = figures.speed;
     *desired = figures.desired;
@@ -127,7 +128,7 @@ pub extern "C" fn cruise_figures(
 
 // Whether a car is alike to that of a second record.
 fn compare(a: Car, b: Reading) -> u32
-    ensures { λ r. ⌜ r ≡ alikeAnswer (Loaded a) b ⌝ }
+    ensures { λ r. ⌜ r ≡ alikeAnswer (gives a) (readingAnswer b) ⌝ }
 {
     match b {
         Reading::Loaded(car) => event::bit(alike::alike(a, car)),
@@ -136,16 +137,16 @@ fn compare(a: Car, b: Reading) -> u32
 }
 
 #[no_mangle]
-pub extern "C" fn cruise_alike(a: &[u32], b: &[u32], answer: &mut u32) -> u32
-    ensures { λ r. ⌜ (r ≡ alikeRefusal (readOf (now (a .entry))) (readOf (now (b .entry)))) × (now (answer .exit) ≡ alikeAnswer (readOf (now (a .entry))) (readOf (now (b .entry)))) ⌝ }
+pub extern "C" fn cruise_alike(a: &[u32], b: &[u32], alike: &mut u32) -> u32
+    ensures { λ r. ⌜ (r ≡ alikeRefusal (readOf (now (a .entry))) (readOf (now (b .entry)))) × (now (alike .exit) ≡ alikeAnswer (readOf (now (a .entry))) (readOf (now (b .entry)))) ⌝ }
 {
     match record::read_from(a) {
         Reading::Loaded(car) => {
-            *answer = compare(car, record::read_from(b));
+            *alike = compare(car, record::read_from(b));
             cruise_test(b)
         }
         Reading::Refused(n) => {
-            *answer = 0;
+            *alike = 0;
             n
         }
     }

@@ -5,46 +5,15 @@
 // words; for each, of the words lent: the test's refusal; the figures' and the figures (of a the sign, 1 below 0, and the size); that of
 // alike and whether the words before the call are alike.
 ghost use Prim.Native.Nat.{_≤_};
-ghost use mathlib.Core.Path.{_≡_};
-ghost use lib.ListN.{length};
-use libc::STDIN_FILENO;
-use libc::STDOUT_FILENO;
 
 // A lesson's words start here in the program's own array.
 const START: usize = 3;
 
+// No size is larger.
+const MOST: usize = 16;
+
 // What the library is to store over, or to keep.
 const UNUSED: u32 = 0xDEAD_BEEF;
-
-fn next_word() -> u32 {
-    let mut bytes = [0u8; 4];
-    io::read_full(STDIN_FILENO, &mut bytes);
-    wire::word_at(&bytes, 0)
-}
-
-fn next_size() -> usize
-    ensures { λ r. ⌜ r ≤ 16 ⌝ }
-{
-    let n = next_word();
-    if n > 16 {
-        return 16;
-    }
-    n as usize
-}
-
-fn number(n: u32) {
-    io::print_decimal(STDOUT_FILENO, n as u64);
-    io::write_all(STDOUT_FILENO, b" ");
-}
-
-fn count(n: usize) {
-    io::print_decimal(STDOUT_FILENO, n as u64);
-    io::write_all(STDOUT_FILENO, b" ");
-}
-
-fn end_line() {
-    io::write_all(STDOUT_FILENO, b"\n");
-}
 
 fn has_size(n: i32, size: u32) -> bool
     requires { ⌜ size ≤ 99 ⌝ }
@@ -66,93 +35,66 @@ fn size_of(n: i32) -> u32 {
 }
 
 fn signed(n: i32) {
-    number(if n < 0 { 1 } else { 0 });
-    number(size_of(n));
+    tester::flag(n < 0);
+    tester::number(size_of(n));
 }
 
-fn print_words(words: &[u32]) {
-    let mut i = 0;
-    while i < words.len() {
-        number(words[i]);
-        i += 1;
+// The settings word of mode and signs; settings outside their values have none, and get 0, which is refused as they are.
+fn settings_word(mode: u32, signs: u32) -> u32 {
+    match settings::write(mode, signs) {
+        settings::Writing::Word(word) => word,
+        settings::Writing::Refused(_) => 0,
     }
-    end_line();
-}
-
-fn put(words: &mut [u32], i: usize, word: u32)
-    ensures { λ _. ⌜ length (now (words .exit)) ≡ length (now (words .entry)) ⌝ }
-{
-    if i < words.len() {
-        words[i] = word;
-    }
-}
-
-// Reads words into places from a start on.
-fn fill(words: &mut [u32], start: usize, count: usize) {
-    let mut i = 0;
-    while i < count {
-        put(words, std::num::wrapping_add_usize(start, i), next_word());
-        i += 1;
-    }
-}
-
-fn given(words: &mut [u32]) {
-    let size = words.len();
-    fill(words, 0, size);
 }
 
 fn fresh(words: &mut [u32]) {
-    let mode = next_word();
-    let signs = next_word();
-    number(cruise::cruise_fresh(mode, signs, words));
-    end_line();
+    let mode = tester::next_word();
+    let signs = tester::next_word();
+    tester::number(cruise::cruise_fresh(settings_word(mode, signs), words));
+    tester::end_line();
 }
 
 fn drive(words: &mut [u32]) {
-    let word = next_word();
-    number(cruise::cruise_drive(words, word));
-    end_line();
+    let word = tester::next_word();
+    tester::number(cruise::cruise_drive(words, word));
+    tester::end_line();
 }
 
-// A lesson of the events from START to an end, with room for answers.
-fn teach(words: &mut [u32], events: &[u32], end: usize, answers: &mut [u32], room: usize) {
-    if events.len() < end {
-        return;
-    }
-    if end < START {
-        return;
-    }
+// A lesson with the first answers for its own.
+fn teach(words: &mut [u32], events: &mut [u32], answers: &mut [u32], room: usize) {
     if answers.len() < room {
         return;
     }
+    tester::fill(events);
     let mut accepted = 99;
     let mut refused = 99;
     let refusal = cruise::cruise_lesson(
         words,
-        &events[START..end],
-        &mut answers[..room],
+        events,
+        &mut answers[0..room],
         &mut accepted,
         &mut refused,
     );
-    number(refusal);
-    count(accepted);
-    count(refused);
-    end_line();
+    tester::number(refusal);
+    tester::count(accepted);
+    tester::count(refused);
+    tester::end_line();
 }
 
 fn lesson(words: &mut [u32]) {
-    let room = next_size();
-    let count = next_size();
+    let room = tester::next_size(MOST);
+    let end = START + tester::next_size(MOST);
     let mut events = [UNUSED; 20];
-    fill(&mut events, START, count);
     let mut answers = [UNUSED; 16];
-    teach(words, &events, START + count, &mut answers, room);
-    print_words(&answers);
+    teach(words, &mut events[START..end], &mut answers, room);
+    tester::print_words(&answers);
 }
 
 fn call(kind: u32, words: &mut [u32]) {
     match kind {
-        1 => given(words),
+        1 => {
+            tester::fill(words);
+        }
         2 => fresh(words),
         3 => drive(words),
         _ => lesson(words),
@@ -175,27 +117,27 @@ fn figures(words: &[u32]) {
         &mut acoustic,
         &mut distance,
     );
-    number(refusal);
-    number(speed);
-    number(desired);
+    tester::number(refusal);
+    tester::number(speed);
+    tester::number(desired);
     signed(acceleration);
-    number(visual);
-    number(acoustic);
-    number(distance);
+    tester::number(visual);
+    tester::number(acoustic);
+    tester::number(distance);
 }
 
 fn alike(words: &[u32], before: &[u32]) {
     let mut answer = UNUSED;
     let refusal = cruise::cruise_alike(words, before, &mut answer);
-    number(refusal);
-    number(answer);
+    tester::number(refusal);
+    tester::number(answer);
 }
 
 fn questions(words: &[u32], before: &[u32]) {
-    number(cruise::cruise_test(words));
+    tester::number(cruise::cruise_test(words));
     figures(words);
     alike(words, before);
-    end_line();
+    tester::end_line();
 }
 
 // Questions about the first words.
@@ -206,7 +148,7 @@ fn ask(size: usize, words: &[u32], before: &[u32]) {
     if before.len() < size {
         return;
     }
-    questions(&words[..size], &before[..size]);
+    questions(&words[0..size], &before[0..size]);
 }
 
 // A call over the first words.
@@ -214,13 +156,13 @@ fn lend(kind: u32, size: usize, words: &mut [u32]) {
     if words.len() < size {
         return;
     }
-    call(kind, &mut words[..size]);
+    call(kind, &mut words[0..size]);
 }
 
 // The words, where the library was lent them to change.
 fn show(kind: u32, words: &[u32]) {
     if kind > 1 {
-        print_words(words);
+        tester::print_words(words);
     }
 }
 
@@ -228,11 +170,11 @@ fn calls(most: u32) {
     let mut words = [UNUSED; 13];
     let mut left = most;
     while left > 0 {
-        let kind = next_word();
+        let kind = tester::next_word();
         if kind == 0 {
             return;
         }
-        let size = next_size();
+        let size = tester::next_size(MOST);
         let before = words;
         lend(kind, size, &mut words);
         show(kind, &words);

@@ -1,14 +1,14 @@
 // Event words (document 01, "Event words"): a word is read into an event, and an event is written as its word.
 ghost use mathlib.Core.Path.{_≡_};
-ghost use Prim.Native.Nat.{_<_};
 ghost use mathlib.Core.Bool.{true};
-ghost use Rattle.event.specs.Words.{readOf, kindsOf, keyOnOf, judged, inRange, keyWord, radarWord, tickWord, writeOf, wordOf, permittedGap, bitOf};
-ghost use Rattle.event.specs.Named.{namedOf, malformedOf};
+ghost use lib.Dec.{eqb};
+ghost use Rattle.event.specs.Words.{kindOf, bodyOf, inputAnswer, readingAnswer, writingAnswer, permittedGap, inputRange, inRange, unnamedOf, judged, keyWord, radarWord, keyOnOf, inputsOf, inputOf, readyOf, tickWord, readOf, bitOf, inputWord, wordOf, inputWriting, writeOf};
+use number::bound;
 
 pub mod refusal;
 
-// The ten kinds of event, with the values that a word of the kind holds.
-pub enum Event {
+// What the pupil, the signs and the radar do: nine of the ten kinds of event, with the values that a word of the kind holds.
+pub enum Input {
     Key { position: u32, ready: bool },
     UpDown(u32),
     ForeBack(u32),
@@ -18,7 +18,18 @@ pub enum Event {
     Gap(u32),
     Sign(u32),
     Radar { range: u32, speed: u32 },
+}
+
+// One of the nine, or a second of the clock.
+pub enum Event {
+    Input(Input),
     Tick { ready: bool },
+}
+
+// What reading a word that is no tick gives: the input, or the number of the first check that holds.
+pub enum InputReading {
+    Read(Input),
+    Refused(u32),
 }
 
 // What reading a word gives: the event, or the number of the first check that holds.
@@ -36,135 +47,146 @@ pub enum Writing {
 // A word's kind stands in its top four bits, above the 28 bits of its body.
 const KIND: u32 = 0x1000_0000;
 
+// The kind of a tick. Most words of a lesson are ticks, so that they are told before the other kinds.
+const TICK: u32 = 10;
+
+// A tick's bodies with no unnamed bit set are those below this.
+const TICK_BODIES: u32 = 2;
+
 pub fn read(word: u32) -> Reading
-    ensures { λ r. ⌜ r ≡ readOf word ⌝ }
+    ensures { λ r. ⌜ readingAnswer r ≡ readOf word ⌝ }
 {
-    let kind = word / KIND;
-    let body = word % KIND;
-    let named = named(kind);
-    if body >= named {
-        return Reading::Refused(malformed(named));
+    if is_tick(word) {
+        return read_tick(word);
     }
-    read_kind(kind, body)
-}
-
-// The bodies of a kind that have no unnamed bit set are those below this; 0 for no such kind. With it one look tells checks 1 and 2.
-fn named(kind: u32) -> u32
-    requires { ⌜ kind < 16 ⌝ }
-    ensures { λ r. ⌜ r ≡ namedOf kind ⌝ }
-{
-    let table = [
-        0,
-        8,
-        8,
-        4,
-        256,
-        256,
-        8192,
-        32,
-        2048,
-        2097152,
-        2,
-        0,
-        0,
-        0,
-        0,
-        0,
-    ];
-    table[kind as usize]
-}
-
-fn malformed(named: u32) -> u32
-    ensures { λ r. ⌜ r ≡ malformedOf named ⌝ }
-{
-    if named == 0 {
-        return refusal::NO_SUCH_KIND;
+    match read_input(word) {
+        InputReading::Read(input) => Reading::Read(Event::Input(input)),
+        InputReading::Refused(n) => Reading::Refused(n),
     }
-    refusal::UNNAMED_BIT
 }
 
-// The event of a kind, or its refusal.
-fn read_kind(kind: u32, body: u32) -> Reading
-    ensures { λ r. ⌜ r ≡ kindsOf kind body ⌝ }
+pub fn is_tick(word: u32) -> bool
+    ensures { λ r. ⌜ r ≡ eqb (kindOf word) 10 ⌝ }
+{
+    word / KIND == TICK
+}
+
+// Check 2 of a tick's word, or 0.
+pub fn tick_refusal(word: u32) -> u32
+    ensures { λ r. ⌜ r ≡ unnamedOf 2 (bodyOf word) ⌝ }
+{
+    unnamed(TICK_BODIES, word % KIND)
+}
+
+pub fn tick_ready(word: u32) -> bool
+    ensures { λ r. ⌜ r ≡ readyOf (bodyOf word) ⌝ }
+{
+    word % KIND == 1
+}
+
+fn read_tick(word: u32) -> Reading
+    ensures { λ r. ⌜ readingAnswer r ≡ tickWord (bodyOf word) ⌝ }
+{
+    let refusal = tick_refusal(word);
+    if refusal != 0 {
+        return Reading::Refused(refusal);
+    }
+    Reading::Read(Event::Tick {
+        ready: tick_ready(word),
+    })
+}
+
+// The input of a word, or its refusal, for a word that is no tick.
+pub fn read_input(word: u32) -> InputReading
+    ensures { λ r. ⌜ inputAnswer r ≡ inputOf word ⌝ }
+{
+    read_kind(word / KIND, word % KIND)
+}
+
+// The kinds beside the tick.
+fn read_kind(kind: u32, body: u32) -> InputReading
+    ensures { λ r. ⌜ inputAnswer r ≡ inputsOf kind body ⌝ }
 {
     match kind {
         1 => key_word(body),
-        2 => judge(8, body, Event::UpDown(body)),
-        3 => judge(4, body, Event::ForeBack(body)),
+        2 => judge(8, body, Input::UpDown(body)),
+        3 => judge(4, body, Input::ForeBack(body)),
         4..=9 => key_on_word(kind, body),
-        10 => tick_word(body),
-        _ => Reading::Refused(refusal::NO_SUCH_KIND),
+        _ => InputReading::Refused(refusal::NO_SUCH_KIND),
     }
 }
 
 // The kinds that need the key on, 4 to 9.
-fn key_on_word(kind: u32, body: u32) -> Reading
-    ensures { λ r. ⌜ r ≡ keyOnOf kind body ⌝ }
+fn key_on_word(kind: u32, body: u32) -> InputReading
+    ensures { λ r. ⌜ inputAnswer r ≡ keyOnOf kind body ⌝ }
 {
     match kind {
-        4 => judge(256, body, Event::Brake(body)),
-        5 => judge(256, body, Event::Gas(body)),
-        6 => judge(8192, body, Event::Button(body)),
-        7 => judge(32, body, Event::Gap(body)),
-        8 => judge(2048, body, Event::Sign(body)),
+        4 => judge(256, body, Input::Brake(body)),
+        5 => judge(256, body, Input::Gas(body)),
+        6 => judge(8192, body, Input::Button(body)),
+        7 => judge(32, body, Input::Gap(body)),
+        8 => judge(2048, body, Input::Sign(body)),
         _ => radar_word(body),
     }
 }
 
-fn key_word(body: u32) -> Reading
-    ensures { λ r. ⌜ r ≡ keyWord body ⌝ }
+fn key_word(body: u32) -> InputReading
+    ensures { λ r. ⌜ inputAnswer r ≡ keyWord body ⌝ }
 {
-    let event = Event::Key {
+    let input = Input::Key {
         position: body % 4,
         ready: body / 4 == 1,
     };
-    judge(8, body, event)
+    judge(8, body, input)
 }
 
-fn radar_word(body: u32) -> Reading
-    ensures { λ r. ⌜ r ≡ radarWord body ⌝ }
+fn radar_word(body: u32) -> InputReading
+    ensures { λ r. ⌜ inputAnswer r ≡ radarWord body ⌝ }
 {
-    let event = Event::Radar {
+    let input = Input::Radar {
         range: body % 256,
         speed: body / 256,
     };
-    judge(2097152, body, event)
+    judge(2097152, body, input)
 }
 
-fn tick_word(body: u32) -> Reading
-    ensures { λ r. ⌜ r ≡ tickWord body ⌝ }
-{
-    let event = Event::Tick { ready: body == 1 };
-    judge(2, body, event)
-}
-
-// Checks 2 and 3: a body with a bit at or above the named ones, and a value outside its range.
-fn judge(named: u32, body: u32, event: Event) -> Reading
-    ensures { λ r. ⌜ r ≡ judged named body event ⌝ }
+// Check 2: 2 for a body with a bit at or above the named ones, else 0.
+fn unnamed(named: u32, body: u32) -> u32
+    ensures { λ r. ⌜ r ≡ unnamedOf named body ⌝ }
 {
     if body >= named {
-        return Reading::Refused(refusal::UNNAMED_BIT);
+        return refusal::UNNAMED_BIT;
     }
-    if !in_range(event) {
-        return Reading::Refused(refusal::OUT_OF_RANGE);
-    }
-    Reading::Read(event)
+    0
 }
 
-fn in_range(event: Event) -> bool
-    ensures { λ r. ⌜ r ≡ inRange event ⌝ }
+// Checks 2 and 3: an unnamed bit, and a value outside its range.
+fn judge(named: u32, body: u32, input: Input) -> InputReading
+    ensures { λ r. ⌜ inputAnswer r ≡ judged named body input ⌝ }
 {
-    match event {
-        Event::Key { position, ready: _ } => position <= 2,
-        Event::UpDown(x) => x <= 4,
-        Event::ForeBack(x) => x <= 2,
-        Event::Brake(x) => x <= 225,
-        Event::Gas(x) => x <= 225,
-        Event::Button(limit) => limit <= 5000,
-        Event::Gap(tenths) => permitted_gap(tenths),
-        Event::Sign(s) => s <= 2000,
-        Event::Radar { range, speed } => (range <= 254) & (speed <= 5000),
-        Event::Tick { ready: _ } => true,
+    let refusal = unnamed(named, body);
+    if refusal != 0 {
+        return InputReading::Refused(refusal);
+    }
+    if !input_in_range(input) {
+        return InputReading::Refused(refusal::OUT_OF_RANGE);
+    }
+    InputReading::Read(input)
+}
+
+fn input_in_range(input: Input) -> bool
+    ensures { λ r. ⌜ r ≡ inputRange input ⌝ }
+{
+    match input {
+        Input::Key { position, ready: _ } => position <= 2,
+        Input::UpDown(x) => x <= 4,
+        Input::ForeBack(x) => x <= 2,
+        Input::Brake(x) => x <= bound::PEDAL,
+        Input::Gas(x) => x <= bound::PEDAL,
+        Input::Button(limit) => limit <= bound::SPEED,
+        Input::Gap(tenths) => permitted_gap(tenths),
+        Input::Sign(s) => s <= 2000,
+        Input::Radar { range, speed } => (range <= 254) & (speed <= bound::SPEED),
     }
 }
 
@@ -176,29 +198,37 @@ pub fn permitted_gap(tenths: u32) -> bool
 }
 
 pub fn write(event: Event) -> Writing
-    ensures { λ r. ⌜ r ≡ writeOf event ⌝ }
-{
-    if !in_range(event) {
-        return Writing::Refused(refusal::OUT_OF_RANGE);
-    }
-    Writing::Word(word(event))
-}
-
-fn word(event: Event) -> u32
-    requires { ⌜ inRange event ≡ true ⌝ }
-    ensures { λ r. ⌜ r ≡ wordOf event ⌝ }
+    ensures { λ r. ⌜ writingAnswer r ≡ writeOf event ⌝ }
 {
     match event {
-        Event::Key { position, ready } => KIND + position + 4 * bit(ready),
-        Event::UpDown(x) => 2 * KIND + x,
-        Event::ForeBack(x) => 3 * KIND + x,
-        Event::Brake(x) => 4 * KIND + x,
-        Event::Gas(x) => 5 * KIND + x,
-        Event::Button(limit) => 6 * KIND + limit,
-        Event::Gap(tenths) => 7 * KIND + tenths,
-        Event::Sign(s) => 8 * KIND + s,
-        Event::Radar { range, speed } => 9 * KIND + range + 256 * speed,
-        Event::Tick { ready } => 10 * KIND + bit(ready),
+        Event::Input(input) => write_input(input),
+        Event::Tick { ready } => Writing::Word(TICK * KIND + bit(ready)),
+    }
+}
+
+fn write_input(input: Input) -> Writing
+    ensures { λ r. ⌜ writingAnswer r ≡ inputWriting input ⌝ }
+{
+    if !input_in_range(input) {
+        return Writing::Refused(refusal::OUT_OF_RANGE);
+    }
+    Writing::Word(input_word(input))
+}
+
+fn input_word(input: Input) -> u32
+    requires { ⌜ inputRange input ≡ true ⌝ }
+    ensures { λ r. ⌜ r ≡ inputWord input ⌝ }
+{
+    match input {
+        Input::Key { position, ready } => KIND + position + 4 * bit(ready),
+        Input::UpDown(x) => 2 * KIND + x,
+        Input::ForeBack(x) => 3 * KIND + x,
+        Input::Brake(x) => 4 * KIND + x,
+        Input::Gas(x) => 5 * KIND + x,
+        Input::Button(limit) => 6 * KIND + limit,
+        Input::Gap(tenths) => 7 * KIND + tenths,
+        Input::Sign(s) => 8 * KIND + s,
+        Input::Radar { range, speed } => 9 * KIND + range + 256 * speed,
     }
 }
 

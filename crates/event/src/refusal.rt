@@ -44,3 +44,5 @@ pub const NOT_ACCEPTED: u32 = 18;
 pub const SHORT_ANSWERS: u32 = 19;
 
 pub const SHORT_RECORD: u32 = 20;
+
+pub const CUT_WORD: u32 = 21;

@@ -3,8 +3,6 @@
 use event::Event;
 use event::Reading;
 use event::Writing;
-use libc::STDIN_FILENO;
-use libc::STDOUT_FILENO;
 
 fn refusal(word: u32) -> u32 {
     match event::read(word) {
@@ -28,24 +26,23 @@ fn same(word: u32) -> u32 {
 }
 
 fn line(word: u32) {
-    io::print_decimal(STDOUT_FILENO, refusal(word) as u64);
-    io::write_all(STDOUT_FILENO, b" ");
-    io::print_decimal(STDOUT_FILENO, same(word) as u64);
-    io::write_all(STDOUT_FILENO, b"\n");
+    tester::number(refusal(word));
+    tester::last(same(word));
 }
 
-fn lines(bytes: &[u8], count: usize) {
-    let mut i = 0;
-    let mut at = 0;
-    while i < count {
-        line(wire::word_at(bytes, at));
-        at = std::num::wrapping_add_usize(at, 4);
-        i += 1;
+// To the end of the input: the count only falls because nothing says that an input ends.
+fn lines() {
+    let mut word = [0; 1];
+    let mut left = u32::MAX;
+    while left > 0 {
+        if !tester::fill(&mut word) {
+            return;
+        }
+        line(word[0]);
+        left -= 1;
     }
 }
 
 fn main() {
-    let mut bytes = io::large_buffer();
-    let n = io::read_full(STDIN_FILENO, &mut bytes);
-    lines(&bytes, n / 4);
+    lines();
 }

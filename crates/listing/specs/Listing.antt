@@ -6,6 +6,9 @@ use Prim.Native.Nat.{ℕ, zero, suc, _+_, _-_, _*_, _/_, _%_}
 use lib.Dec.{ltb}
 use lib.ListN.{length, take, drop}
 use Rattle.kit.specs.Pick.{pick}
+use Rattle.event.specs.Words.{bitOf}
+use Rattle.answer.specs.declared.Answer.{Answer}
+use Rattle.answer.specs.AnswerWord.{readOf}
 
 -- ---- numbers
 
@@ -29,38 +32,24 @@ fieldOf n = decimalOf n ++ 32 ∷ []
 unfoldable pub signedOf : ℕ → List ℕ
 signedOf code = pick (ltb code 60) (45 ∷ fieldOf (60 - code)) (fieldOf (code - 60))
 
--- ---- a row: the answer word in bits 0 to 31 (bits 0-4 refusal, 5 visual, 6 acoustic, 7-13 a + 60, 14-24 D), the speed in bits 32 to 63
-abbrev pub refusalIn : ℕ → ℕ
-refusalIn row = row % 32
-
-abbrev pub visualIn : ℕ → ℕ
-visualIn row = row / 32 % 2
-
-abbrev pub acousticIn : ℕ → ℕ
-acousticIn row = row / 64 % 2
-
-abbrev pub codeIn : ℕ → ℕ
-codeIn row = row / 128 % 128
-
-abbrev pub desiredIn : ℕ → ℕ
-desiredIn row = row / 16384 % 2048
-
-abbrev pub speedIn : ℕ → ℕ
-speedIn row = row / 4294967296
-
 -- the end of a line: "visual acoustic" and a newline
 unfoldable pub warningsOf : ℕ → ℕ → List ℕ
 warningsOf visual acoustic = fieldOf visual ++ decimalOf acoustic ++ 10 ∷ []
 
--- "event number, refusal, v, D, a, visual, acoustic"
-unfoldable pub lineOf : ℕ → ℕ → List ℕ
-lineOf number row =
-    fieldOf number ++ fieldOf (refusalIn row) ++ fieldOf (speedIn row) ++ fieldOf (desiredIn row) ++ signedOf (codeIn row) ++ warningsOf (visualIn row) (acousticIn row)
+-- "event number, refusal, v, D, a, visual, acoustic", from an event's answer word and v
+unfoldable pub answerLine : ℕ → Answer → ℕ → List ℕ
+answerLine number a v =
+    fieldOf number ++ fieldOf (a .refusal) ++ fieldOf v ++ fieldOf (a .desired) ++ signedOf (a .acceleration)
+    ++ warningsOf (bitOf (a .visual)) (bitOf (a .acoustic))
 
--- a line for each row, the numbers rising by one
-unfoldable pub linesOf : ℕ → List ℕ → List ℕ
-linesOf first [] = []
-linesOf first (row ∷ rows) = lineOf first row ++ linesOf (first + 1) rows
+abbrev pub lineOf : ℕ → ℕ → ℕ → List ℕ
+lineOf number word v = answerLine number (readOf word) v
+
+-- a line for each event, the numbers rising by one
+unfoldable pub linesOf : ℕ → List ℕ → List ℕ → List ℕ
+linesOf first [] vs = []
+linesOf first (w ∷ ws) [] = []
+linesOf first (w ∷ ws) (v ∷ vs) = lineOf first w v ++ linesOf (first + 1) ws vs
 
 -- ---- text in a slice
 
@@ -68,26 +57,13 @@ linesOf first (row ∷ rows) = lineOf first row ++ linesOf (first + 1) rows
 unfoldable pub placed : List ℕ → ℕ → List ℕ → List ℕ
 placed out at text = take at out ++ text ++ drop (at + length text) out
 
--- put_text: a text that does not fit is not put
-unfoldable pub textIndex : List ℕ → ℕ → List ℕ → ℕ
-textIndex out at text = pick (ltb (length out) (at + length text)) at (at + length text)
+-- put_lines: refused with fewer than 64 bytes for each event, where first + the count of events passes 2^64 - 1, or with fewer speeds
+unfoldable pub linesRefused : List ℕ → ℕ → List ℕ → List ℕ → Bool
+linesRefused out first ws vs =
+    ltb (length out) (64 * length ws) || ltb 18446744073709551615 (first + length ws) || ltb (length vs) (length ws)
 
-unfoldable pub textAfter : List ℕ → ℕ → List ℕ → List ℕ
-textAfter out at text = pick (ltb (length out) (at + length text)) out (placed out at text)
+unfoldable pub linesCount : List ℕ → ℕ → List ℕ → List ℕ → ℕ
+linesCount out first ws vs = pick (linesRefused out first ws vs) 0 (length (linesOf first ws vs))
 
--- put_line: nothing is put with fewer than 64 bytes from `at` on
-unfoldable pub lineIndex : List ℕ → ℕ → ℕ → ℕ → ℕ
-lineIndex out at number row = pick (ltb (length out) (at + 64)) at (at + length (lineOf number row))
-
-unfoldable pub lineAfter : List ℕ → ℕ → ℕ → ℕ → List ℕ
-lineAfter out at number row = pick (ltb (length out) (at + 64)) out (placed out at (lineOf number row))
-
--- put_lines: refused with fewer than 64 bytes for each row, or where first + the count of rows passes 2^64 - 1
-unfoldable pub linesRefused : List ℕ → ℕ → List ℕ → Bool
-linesRefused out first rows = ltb (length out) (64 * length rows) || ltb 18446744073709551615 (first + length rows)
-
-unfoldable pub linesCount : List ℕ → ℕ → List ℕ → ℕ
-linesCount out first rows = pick (linesRefused out first rows) 0 (length (linesOf first rows))
-
-unfoldable pub linesAfter : List ℕ → ℕ → List ℕ → List ℕ
-linesAfter out first rows = pick (linesRefused out first rows) out (placed out 0 (linesOf first rows))
+unfoldable pub linesAfter : List ℕ → ℕ → List ℕ → List ℕ → List ℕ
+linesAfter out first ws vs = pick (linesRefused out first ws vs) out (placed out 0 (linesOf first ws vs))

@@ -3,15 +3,17 @@
 use mathlib.Core.Path.{_≡_, refl, sym, ap, _∙_}
 use mathlib.Core.Bool.{Bool, true, false}
 use mathlib.Core.List.{List, [], _∷_, _++_, append-assoc, append-nil}
-use Prim.Native.Nat.{ℕ, zero, suc, _+_, _-_, _*_, _/_, _%_, _^_, _≤_, _<_}
+use Prim.Native.Nat.{ℕ, zero, suc, _+_, _-_, _/_, _%_, _^_, _≤_, _<_}
 use native.Mathlib.Nat.{pow-suc, add-zero, add-assoc}
 use native.Mathlib.Omega.{arith}
 use borrow.Author.Tests.{lt-ltb, le-ltb, ltb-true, ltb-false}
 use lib.Dec.{ltb}
 use lib.ListN.{length, take, length-append, length-take, length-drop, take-append-drop}
 use lib.Seq.{take-at, drop-append-add, drop-drop, length-take-le}
-use Rattle.kit.specs.Pick.{pick, pick-true, pick-false, pick-case}
-use Rattle.listing.specs.Listing.{digit, decimalIn, decimalOf, fieldOf, signedOf, warningsOf, lineOf, linesOf, placed, refusalIn, visualIn, acousticIn, codeIn, desiredIn, speedIn, textIndex, lineIndex, linesRefused, linesCount, linesAfter}
+use Rattle.kit.specs.Pick.{pick, pick-true, pick-false}
+use Rattle.event.specs.Words.{bitOf}
+use Rattle.answer.specs.AnswerWord.{readOf}
+use Rattle.listing.specs.Listing.{digit, decimalIn, decimalOf, fieldOf, signedOf, warningsOf, answerLine, lineOf, linesOf, placed, linesRefused, linesCount, linesAfter}
 
 -- ---- digits
 
@@ -59,37 +61,14 @@ decimal-length (suc k) n h = go (ltb n 10) refl (decimal-length k (n / 10) (omeg
     go true e g = rw (decimal-one n (ltb-true n 10 e)) (omega arith)
     go false e g = rw (decimal-more n (ltb-false n 10 e)) (simp length-append (omega arith))
 
-field-length : (k n : ℕ) → n < 10 ^ suc k → length (fieldOf n) ≤ suc (suc k)
-unfolding fieldOf
-field-length k n h = simp length-append (omega (arith, decimal-length k n h))
-
-signed-length : (code : ℕ) → code < 128 → length (signedOf code) ≤ 4
-unfolding signedOf
-signed-length code h =
-    pick-case (λ (t : List ℕ). length t ≤ 4) _ _ _
-    (λ e. let f = field-length 1 (60 - code) (omega arith) in omega arith)
-    (λ e. let f = field-length 1 (code - 60) (omega arith) in omega arith)
-
--- a line has at most 48 bytes
-pub line-length : (number row : ℕ) → number < 18446744073709551616 → row < 18446744073709551616 → length (lineOf number row) ≤ 48
-unfolding lineOf
-line-length number row h g =
-    let e₁ = field-length 19 number (omega arith) in
-    let e₂ = field-length 1 (refusalIn row) (omega arith) in
-    let e₃ = field-length 9 (speedIn row) (omega arith) in
-    let e₄ = field-length 3 (desiredIn row) (omega arith) in
-    let e₅ = signed-length (codeIn row) (omega arith) in
-    let e₆ = warnings-four (visualIn row) (acousticIn row) (omega arith) (omega arith) in
-    simp (length-append, e₆) (omega arith)
-
 -- lines 1, 4, 5, 7 and 10 of the printed listing
 pub printed-lines :
-    (lineOf 1 (3221233152 + 4294967296 * 0) ≡ 49 ∷ 32 ∷ 48 ∷ 32 ∷ 48 ∷ 32 ∷ 48 ∷ 32 ∷ 48 ∷ 32 ∷ 48 ∷ 32 ∷ 48 ∷ 10 ∷ [])
-    × (lineOf 4 (3221233920 + 4294967296 * 21) ≡ 52 ∷ 32 ∷ 48 ∷ 32 ∷ 50 ∷ 49 ∷ 32 ∷ 48 ∷ 32 ∷ 54 ∷ 32 ∷ 48 ∷ 32 ∷ 48 ∷ 10 ∷ [])
-    × (lineOf 5 (3221233929 + 4294967296 * 21) ≡ 53 ∷ 32 ∷ 57 ∷ 32 ∷ 50 ∷ 49 ∷ 32 ∷ 48 ∷ 32 ∷ 54 ∷ 32 ∷ 48 ∷ 32 ∷ 48 ∷ 10 ∷ [])
-    × (lineOf 7 (3221577992 + 4294967296 * 21) ≡ 55 ∷ 32 ∷ 56 ∷ 32 ∷ 50 ∷ 49 ∷ 32 ∷ 50 ∷ 49 ∷ 32 ∷ 54 ∷ 32 ∷ 48 ∷ 32 ∷ 48 ∷ 10 ∷ [])
-    × (lineOf 10 (3221577984 + 4294967296 * 42) ≡ 49 ∷ 48 ∷ 32 ∷ 48 ∷ 32 ∷ 52 ∷ 50 ∷ 32 ∷ 50 ∷ 49 ∷ 32 ∷ 54 ∷ 32 ∷ 48 ∷ 32 ∷ 48 ∷ 10 ∷ [])
-unfolding lineOf fieldOf signedOf warningsOf decimalOf decimalIn pick
+    (lineOf 1 3221233152 0 ≡ 49 ∷ 32 ∷ 48 ∷ 32 ∷ 48 ∷ 32 ∷ 48 ∷ 32 ∷ 48 ∷ 32 ∷ 48 ∷ 32 ∷ 48 ∷ 10 ∷ [])
+    × (lineOf 4 3221233920 21 ≡ 52 ∷ 32 ∷ 48 ∷ 32 ∷ 50 ∷ 49 ∷ 32 ∷ 48 ∷ 32 ∷ 54 ∷ 32 ∷ 48 ∷ 32 ∷ 48 ∷ 10 ∷ [])
+    × (lineOf 5 3221233929 21 ≡ 53 ∷ 32 ∷ 57 ∷ 32 ∷ 50 ∷ 49 ∷ 32 ∷ 48 ∷ 32 ∷ 54 ∷ 32 ∷ 48 ∷ 32 ∷ 48 ∷ 10 ∷ [])
+    × (lineOf 7 3221577992 21 ≡ 55 ∷ 32 ∷ 56 ∷ 32 ∷ 50 ∷ 49 ∷ 32 ∷ 50 ∷ 49 ∷ 32 ∷ 54 ∷ 32 ∷ 48 ∷ 32 ∷ 48 ∷ 10 ∷ [])
+    × (lineOf 10 3221577984 42 ≡ 49 ∷ 48 ∷ 32 ∷ 48 ∷ 32 ∷ 52 ∷ 50 ∷ 32 ∷ 50 ∷ 49 ∷ 32 ∷ 54 ∷ 32 ∷ 48 ∷ 32 ∷ 48 ∷ 10 ∷ [])
+unfolding answerLine readOf bitOf fieldOf signedOf warningsOf decimalOf decimalIn pick
 printed-lines = (refl, refl, refl, refl, refl)
 
 -- ---- text in a slice
@@ -110,25 +89,14 @@ placed-more out at text more h =
     head : length (take at out ++ text) ≡ at + length text
     head = length-append (take at out) text ∙ rw (length-take-le at out h)
 
--- ---- the index answered lies within the slice
-pub text-within : (out : List ℕ) (at : ℕ) (text : List ℕ) → at ≤ length out → textIndex out at text ≤ length out
-unfolding textIndex
-text-within out at text h = pick-case (λ (n : ℕ). n ≤ length out) _ _ _ (λ e. h) (λ e. ltb-false (length out) (at + length text) e)
-
-pub line-within : (out : List ℕ) (at number row : ℕ) → at ≤ length out → number < 18446744073709551616 → row < 18446744073709551616 → lineIndex out at number row ≤ length out
-unfolding lineIndex
-line-within out at number row h g k =
-    pick-case (λ (n : ℕ). n ≤ length out) _ _ _
-    (λ e. h)
-    (λ e. let f = ltb-false (length out) (at + 64) e in omega (arith, line-length number row g k))
-
+-- ---- the count answered lies within the slice
 -- a slice keeps its length over a call, so the caller has the premise
-pub lines-within : (out : List ℕ) (first : ℕ) (rows : List ℕ) → length (linesAfter out first rows) ≡ length out → linesCount out first rows ≤ length out
+pub lines-within : (out : List ℕ) (first : ℕ) (ws vs : List ℕ) → length (linesAfter out first ws vs) ≡ length out → linesCount out first ws vs ≤ length out
 unfolding linesCount linesAfter placed pick
-lines-within out first rows = go (linesRefused out first rows)
+lines-within out first ws vs = go (linesRefused out first ws vs)
   where
     text : List ℕ
-    text = linesOf first rows
+    text = linesOf first ws vs
 
     go : (b : Bool) → length (pick b out (placed out 0 text)) ≡ length out → pick b 0 (length text) ≤ length out
     go true h = omega arith

@@ -1,10 +1,12 @@
 // One line of the listing at an index of a slice. Each function answers the index past its text.
 ghost use Prim.Native.Nat.{_+_, _≤_, _<_};
 ghost use lib.ListN.{length};
-ghost use Rattle.listing.specs.Listing.{fieldOf, signedOf, warningsOf, lineOf};
+ghost use Rattle.answer.specs.AnswerWord.{Fits};
+ghost use Rattle.listing.specs.Listing.{fieldOf, signedOf, warningsOf, answerLine, lineOf};
 ghost use Rattle.listing.specs.Put.{Put};
 use crate::digits::put_number;
 use crate::digits::put_small;
+use answer::Answer;
 
 fn put_field(out: &mut [u8], at: usize, n: u64) -> usize
     requires { ⌜ at + 21 ≤ length (now out) ⌝ }
@@ -58,14 +60,24 @@ fn put_warnings(out: &mut [u8], at: usize, visual: u32, acoustic: u32) -> usize
     at + 4
 }
 
-pub(crate) fn put_row(out: &mut [u8], at: usize, number: u64, row: u64) -> usize
-    requires { ⌜ at + 64 ≤ length (now out) ⌝ }
-    ensures { λ r. ⌜ Put (now (out .entry)) at (lineOf number row) 64 (now (out .exit)) r ⌝ }
+// The line of an event, by its answer word's fields and v.
+fn put_answer(out: &mut [u8], at: usize, number: u64, answer: Answer, speed: u32) -> usize
+    requires { ⌜ Fits answer × (at + 64 ≤ length (now out)) ⌝ }
+    ensures { λ r. ⌜ Put (now (out .entry)) at (answerLine number answer speed) 64 (now (out .exit)) r ⌝ }
 {
     let refusal = put_field(out, at, number);
-    let speed = put_small_field(out, refusal, (row % 32) as u32);
-    let desired = put_speed(out, speed, row / 0x1_0000_0000);
-    let accel = put_small_field(out, desired, (row / 16384 % 2048) as u32);
-    let warnings = put_signed(out, accel, (row / 128 % 128) as u32);
-    put_warnings(out, warnings, (row / 32 % 2) as u32, (row / 64 % 2) as u32)
+    let velocity = put_small_field(out, refusal, answer.refusal);
+    let desired = put_speed(out, velocity, speed as u64);
+    let accel = put_small_field(out, desired, answer.desired);
+    let warnings = put_signed(out, accel, answer.acceleration);
+    let visual = event::bit(answer.visual);
+    let acoustic = event::bit(answer.acoustic);
+    put_warnings(out, warnings, visual, acoustic)
+}
+
+pub(crate) fn put_line(out: &mut [u8], at: usize, number: u64, word: u32, speed: u32) -> usize
+    requires { ⌜ at + 64 ≤ length (now out) ⌝ }
+    ensures { λ r. ⌜ Put (now (out .entry)) at (lineOf number word speed) 64 (now (out .exit)) r ⌝ }
+{
+    put_answer(out, at, number, answer::read(word), speed)
 }

@@ -6,17 +6,17 @@ use Prim.Native.Nat.{ℕ, _≤_, _<_}
 use native.Mathlib.Omega.{arith}
 use lib.ListN.{length, take, drop, replicate}
 use lib.Seq.{take-all}
+use Rattle.kit.specs.Answer.{Answer, gives, refused}
 use Rattle.kit.specs.Pick.{pick-true, pick-false, picks, and-both, and-left, and-right}
 use Rattle.car.specs.declared.Car.{Car}
 use Rattle.car.specs.declared.lesson.Taught.{Taught}
 use Rattle.car.specs.Good.{goodOf}
 use Rattle.car.specs.Lesson.{answersAfter, lessonOf}
-use Rattle.record.specs.declared.Reading.{Reading}
-use Rattle.record.specs.declared.Reading.the-variants.{Loaded, Refused}
+use Rattle.record.specs.declared.Written.{Written}
 use Rattle.record.specs.Layout.{packed, unpacked}
 use Rattle.record.specs.LayoutLaws.{Fits, packed-length}
 use Rattle.record.specs.Record.{sameWords, writeOf, readOf, savedRefusal, savedBuffer}
-use Rattle.record.specs.RecordLaws.{same-eq, not-accepted}
+use Rattle.record.specs.RecordLaws.{same-eq, not-accepted, written-yes, written-no, written-twelve}
 use Rattle.record.specs.RecordLesson.{LessonLeft, lessonLeft, taughtLeft}
 use Rattle.record.specs.RecordLessonLaws.{lesson-fits, left-none, left-some, left-marked, left-unread}
 
@@ -28,39 +28,51 @@ pub write-no : (c : Car) → goodOf c ≡ false → record { refusal = 18; words
 unfolding writeOf
 write-no c g = sym (pick-false _ _ _ g)
 
-pub read-yes : (ws : List ℕ) (c : Car) (p : List ℕ) (s : Bool) → c ≡ unpacked ws → goodOf c ≡ true → p ≡ packed c → s ≡ sameWords p ws → s ≡ true → Loaded c ≡ readOf ws
+pub read-yes : (ws : List ℕ) (c : Car) (p : List ℕ) (s : Bool) → c ≡ unpacked ws → goodOf c ≡ true → p ≡ packed c → s ≡ sameWords p ws → s ≡ true → gives c ≡ readOf ws
 unfolding readOf
 read-yes ws c p s e g f h t = rw e (sym (pick-true _ _ _ (and-both (goodOf (unpacked ws)) (sameWords (packed (unpacked ws)) ws) (cc) (cc))))
 
-pub read-other : (ws : List ℕ) (c : Car) (p : List ℕ) (s : Bool) → c ≡ unpacked ws → p ≡ packed c → s ≡ sameWords p ws → s ≡ false → Refused 18 ≡ readOf ws
+pub read-other : (ws : List ℕ) (c : Car) (p : List ℕ) (s : Bool) → c ≡ unpacked ws → p ≡ packed c → s ≡ sameWords p ws → s ≡ false → refused 18 ≡ readOf ws
 unfolding readOf
 read-other ws c p s e f h t = sym (pick-false _ _ _ (and-right (goodOf (unpacked ws)) (sameWords (packed (unpacked ws)) ws) (cc)))
 
-pub read-no : (ws : List ℕ) (c : Car) → c ≡ unpacked ws → goodOf c ≡ false → Refused 18 ≡ readOf ws
+pub read-no : (ws : List ℕ) (c : Car) → c ≡ unpacked ws → goodOf c ≡ false → refused 18 ≡ readOf ws
 unfolding readOf
 read-no ws c e g = sym (pick-false _ _ _ (and-left (goodOf (unpacked ws)) (sameWords (packed (unpacked ws)) ws) (cc)))
 
-pub read-length : (ws : List ℕ) → (length ws ≡ 12 → ⊥) → Refused 18 ≡ readOf ws
+pub read-length : (ws : List ℕ) → (length ws ≡ 12 → ⊥) → refused 18 ≡ readOf ws
 read-length ws h = sym (not-accepted ws (λ a. h (a .twelve)))
 
 -- twelve words copied over zeros
-pub read-twelve : (ws x : List ℕ) (r : Reading) → length ws ≡ 12 → x ≡ take 12 ws ++ drop 12 (replicate 12 0) → r ≡ readOf x → r ≡ readOf ws
+pub read-twelve : (ws x : List ℕ) (r : Answer Car) → length ws ≡ 12 → x ≡ take 12 ws ++ drop 12 (replicate 12 0) → r ≡ readOf x → r ≡ readOf ws
 read-twelve ws x r l e h = h ∙ ap readOf (e ∙ append-nil (take 12 ws) ∙ take-all 12 ws (omega arith))
-
-pub save-no : (c : Car) (b : List ℕ) → goodOf c ≡ false → (18 ≡ savedRefusal c b) × (b ≡ savedBuffer c b)
-unfolding savedRefusal savedBuffer
-save-no c b g = (search picks, search picks)
-
-pub save-short : (c : Car) (b : List ℕ) → goodOf c ≡ true → length b < 12 → (20 ≡ savedRefusal c b) × (b ≡ savedBuffer c b)
-unfolding savedRefusal savedBuffer
-save-short c b g h = (search picks, search picks)
-
-pub save-yes : (c : Car) (b x : List ℕ) → goodOf c ≡ true → 12 ≤ length b → x ≡ packed c ++ drop 12 b → (0 ≡ savedRefusal c b) × (x ≡ savedBuffer c b)
-unfolding savedRefusal savedBuffer
-save-yes c b x g h f = rw f (search picks, search picks)
 
 pub saved : (c : Car) (b p x : List ℕ) → p ≡ packed c → x ≡ take 12 p ++ drop 12 b → x ≡ packed c ++ drop 12 b
 saved c b p x e f = rw (f, e, take-all 12 (packed c) (omega (arith, packed-length c)))
+
+-- into a buffer, by what the writer by value gave
+module _ (c : Car) (b : List ℕ) (w : Written) (e : w ≡ writeOf c) where
+  pub save-no : (w .refusal ≡ 0 → ⊥) → (w .refusal ≡ savedRefusal c b) × (b ≡ savedBuffer c b)
+  unfolding savedRefusal savedBuffer
+  save-no n =
+      let g = written-no c (λ z. n (rw e z)) in
+      let r : w .refusal ≡ 18 = rw e (g .0) in
+      rw r (sym (pick-false _ _ _ (g .1)), sym (pick-false _ _ _ (g .1)))
+
+  pub save-short : w .refusal ≡ 0 → length b < 12 → (20 ≡ savedRefusal c b) × (b ≡ savedBuffer c b)
+  unfolding savedRefusal savedBuffer
+  save-short z h = let g = written-yes c (rw e at z) .1 in (search picks, search picks)
+
+  pub save-twelve : 12 ≤ length (w .words)
+  save-twelve = omega (arith, rw (sym e) at (written-twelve c))
+
+  pub save-yes : (x : List ℕ) → w .refusal ≡ 0 → 12 ≤ length b → x ≡ take 12 (w .words) ++ drop 12 b → (0 ≡ savedRefusal c b) × (x ≡ savedBuffer c b)
+  unfolding savedRefusal savedBuffer
+  save-yes x z h f =
+      let y = written-yes c (rw e at z) in
+      let p : w .words ≡ packed c = rw e (y .0) in
+      let g = y .1 in
+      rw (saved c b _ x p f) (search picks, search picks)
 
 -- ---- a lesson of a record's car
 module _ (c : Car) (ws events answers : List ℕ) (t : Taught) (answered : List ℕ) (e : t ≡ lessonOf c events answers) (f : answered ≡ answersAfter c events answers) where
@@ -90,9 +102,9 @@ module _ (ws x : List ℕ) (c : Car) (p : List ℕ) (s : Bool) (l : length ws �
   left-read events answers t =
       left-marked ws events answers c s (u ∙ ap unpacked copied) (m ∙ rw (h, copied)) t
 
-  pub unmarked : s ≡ false → Refused 18 ≡ readOf ws
+  pub unmarked : s ≡ false → refused 18 ≡ readOf ws
   unmarked t = read-other x c p s u h m t ∙ ap readOf copied
 
-pub left-no : (ws events answers : List ℕ) (r a n : ℕ) → Refused 18 ≡ readOf ws → r ≡ 18 → a ≡ 0 → n ≡ 0
+pub left-no : (ws events answers : List ℕ) (r a n : ℕ) → refused 18 ≡ readOf ws → r ≡ 18 → a ≡ 0 → n ≡ 0
     → _≡_ {A = LessonLeft} (record { refusal = r; words = ws; answers = answers; accepted = a; refused = n }) (lessonLeft ws (readOf ws) events answers)
 left-no ws events answers r a n h er ea en = rw (er, ea, en) (left-unread ws events answers h)

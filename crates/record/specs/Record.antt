@@ -5,12 +5,13 @@ use mathlib.Core.List.{List, [], _∷_, _++_}
 use Prim.Native.Nat.{ℕ}
 use lib.Dec.{eqb, ltb}
 use lib.ListN.{length, drop, replicate}
+use Rattle.kit.specs.Answer.{Answer, gives, refused}
 use Rattle.kit.specs.Pick.{pick}
 use Rattle.car.specs.declared.Car.{Car}
 use Rattle.car.specs.Good.{goodOf}
 use Rattle.record.specs.declared.Written.{Written}
 use Rattle.record.specs.declared.Reading.{Reading}
-use Rattle.record.specs.declared.Reading.the-variants.{Loaded, Refused}
+use Rattle.record.specs.declared.Reading.the-variants as reading
 use Rattle.record.specs.Layout.{packed, unpacked}
 
 -- the same words in the same places
@@ -24,10 +25,15 @@ sameWords (a ∷ as′) (b ∷ bs) = eqb a b && sameWords as′ bs
 unfoldable pub writeOf : Car → Written
 writeOf c = pick (goodOf c) (record { refusal = 0; words = packed c }) (record { refusal = 18; words = replicate 12 0 })
 
+-- what a reading says: the car, or 18
+abbrev pub readingAnswer : Reading → Answer Car
+readingAnswer (reading.Loaded c) = gives c
+readingAnswer (reading.Refused n) = refused n
+
 -- the car that the words' fields say, where it is good and these are its words; `Accepted` says the same in the document's words.
 -- 18: "a record not of 12 words or not accepted (no car)"
-unfoldable pub readOf : List ℕ → Reading
-readOf ws = pick (goodOf (unpacked ws) && sameWords (packed (unpacked ws)) ws) (Loaded (unpacked ws)) (Refused 18)
+unfoldable pub readOf : List ℕ → Answer Car
+readOf ws = pick (goodOf (unpacked ws) && sameWords (packed (unpacked ws)) ws) (gives (unpacked ws)) (refused 18)
 
 -- into a buffer: 18, then "20 record buffer under 12 words, kept; in a longer one the words past the twelfth are kept"
 unfoldable pub savedRefusal : Car → List ℕ → ℕ

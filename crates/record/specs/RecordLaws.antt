@@ -3,19 +3,18 @@
 use mathlib.Core.Bool.{Bool, true, false, _&&_, false≢true}
 use mathlib.Core.List.{List, [], _∷_, _++_}
 use mathlib.Core.Path.{_≡_, refl, sym, ap, subst, _∙_}
-use Prim.Native.Nat.{ℕ}
+use Prim.Native.Nat.{ℕ, _≤_}
 use native.Mathlib.Omega.{arith}
 use lib.Dec.{eqb, ltb}
 use lib.ListN.{length, take, drop}
 use lib.Seq.{take-at}
-use borrow.Author.Tests.{eq-eqb, eqb-true}
-use Rattle.kit.specs.Pick.{pick, pick-true, pick-case, and-both, and-l, and-r}
+use borrow.Author.Tests.{eq-eqb, eqb-true, le-ltb}
+use Rattle.kit.specs.Answer.{Answer, gives, refused}
+use Rattle.kit.specs.Pick.{pick, pick-true, pick-false, pick-case, and-both, and-l, and-r}
 use Rattle.car.specs.declared.Car.{Car}
 use Rattle.car.specs.Good.{goodOf}
 use Rattle.car.specs.GoodLaws.{good, good-test}
 use Rattle.record.specs.declared.Written.{Written}
-use Rattle.record.specs.declared.Reading.{Reading}
-use Rattle.record.specs.declared.Reading.the-variants.{Loaded, Refused}
 use Rattle.record.specs.Layout.{packed, unpacked}
 use Rattle.record.specs.LayoutLaws.{good-fits, unpacked-packed, packed-unpacked, packed-marked, packed-length}
 use Rattle.record.specs.Record.{sameWords, writeOf, readOf, savedRefusal, savedBuffer}
@@ -67,9 +66,9 @@ test-accepted ws h =
     subst Accepted e (packed-accepted (unpacked ws) g)
 
 -- what the reading of words says: they are accepted, and the car; or refusal 18, and that they are not accepted
-unfoldable Reads : List ℕ → Reading → Type 0
-Reads ws (Loaded c) = Accepted ws × (c ≡ unpacked ws)
-Reads ws (Refused n) = (n ≡ 18) × (Accepted ws → ⊥)
+unfoldable Reads : List ℕ → Answer Car → Type 0
+Reads ws (gives c) = Accepted ws × (c ≡ unpacked ws)
+Reads ws (refused n) = (n ≡ 18) × (Accepted ws → ⊥)
 
 reads : (ws : List ℕ) → Reads ws (readOf ws)
 unfolding Reads readOf
@@ -79,65 +78,103 @@ reads ws =
     (λ t. (refl, λ a. false≢true (sym t ∙ accepted-test ws a)))
 
 -- an accepted record is read as the car that its fields say
-pub accepted-read : (ws : List ℕ) → Accepted ws → readOf ws ≡ Loaded (unpacked ws)
+pub accepted-read : (ws : List ℕ) → Accepted ws → readOf ws ≡ gives (unpacked ws)
 unfolding readOf
 accepted-read ws a = pick-true _ _ _ (accepted-test ws a)
 
 -- words that are read are an accepted record, and the car is the one that its fields say
-pub read-accepted : (ws : List ℕ) (c : Car) → readOf ws ≡ Loaded c → Accepted ws × (c ≡ unpacked ws)
+pub read-accepted : (ws : List ℕ) (c : Car) → readOf ws ≡ gives c → Accepted ws × (c ≡ unpacked ws)
 unfolding Reads
 read-accepted ws c h = subst (Reads ws) h (reads ws)
 
 -- every refusal is 18, and of words that are not accepted
-pub refused-18 : (ws : List ℕ) (n : ℕ) → readOf ws ≡ Refused n → (n ≡ 18) × (Accepted ws → ⊥)
+pub refused-18 : (ws : List ℕ) (n : ℕ) → readOf ws ≡ refused n → (n ≡ 18) × (Accepted ws → ⊥)
 unfolding Reads
 refused-18 ws n h = subst (Reads ws) h (reads ws)
 
 -- words that are not accepted are refused
-pub not-accepted : (ws : List ℕ) → (Accepted ws → ⊥) → readOf ws ≡ Refused 18
+pub not-accepted : (ws : List ℕ) → (Accepted ws → ⊥) → readOf ws ≡ refused 18
 unfolding readOf
-not-accepted ws h = pick-case (λ (r : Reading). r ≡ Refused 18) (test ws) _ _ (λ t. absurd (h (test-accepted ws t))) (λ t. refl)
+not-accepted ws h = pick-case (λ (r : Answer Car). r ≡ refused 18) (test ws) _ _ (λ t. absurd (h (test-accepted ws t))) (λ t. refl)
 
--- ---- written and read, read and written
--- a good car written and read again is the same car
-pub written-read : (c : Car) → goodOf c ≡ true → readOf (packed c) ≡ Loaded c
-written-read c h = accepted-read (packed c) (packed-accepted c h) ∙ ap Loaded (unpacked-packed c (good-fits c h))
+-- ---- a car's words read, and the words of a car that was read
+pub packed-read : (c : Car) → goodOf c ≡ true → readOf (packed c) ≡ gives c
+packed-read c h = accepted-read (packed c) (packed-accepted c h) ∙ ap gives (unpacked-packed c (good-fits c h))
 
--- an accepted record read and written again has the same twelve words
-pub read-written : (ws : List ℕ) (c : Car) → readOf ws ≡ Loaded c → (packed c ≡ ws) × (goodOf c ≡ true)
-read-written ws c h =
+pub read-packed : (ws : List ℕ) (c : Car) → readOf ws ≡ gives c → (packed c ≡ ws) × (goodOf c ≡ true)
+read-packed ws c h =
     let r = read-accepted ws c h in
     rw (r .1) (accepted-words ws (r .0), good-test (unpacked ws) (r .0 .good))
+
+-- ---- the writer by value
+-- a good car written and read again is the same
+pub written-read : (c : Car) → goodOf c ≡ true → (writeOf c .refusal ≡ 0) × (readOf (writeOf c .words) ≡ gives c)
+unfolding writeOf
+written-read c g = rw (pick-true _ _ _ g) (refl, packed-read c g)
+
+-- an accepted record read and written again has the same words
+pub read-written : (ws : List ℕ) (c : Car) → readOf ws ≡ gives c → writeOf c ≡ record { refusal = 0; words = ws }
+unfolding writeOf
+read-written ws c h = let p = read-packed ws c h in pick-true _ _ _ (p .1) ∙ rw (p .0)
 
 -- what is written has twelve words, also where it is refused
 pub written-twelve : (c : Car) → length (writeOf c .words) ≡ 12
 unfolding writeOf
 written-twelve c = pick-case (λ (w : Written). length (w .words) ≡ 12) (goodOf c) _ _ (λ t. packed-length c) (λ t. refl)
 
+-- written: the words of a good car; refused: 18, of a car that is not good
+pub written-yes : (c : Car) → writeOf c .refusal ≡ 0 → (writeOf c .words ≡ packed c) × (goodOf c ≡ true)
+unfolding writeOf
+written-yes c =
+    pick-case (λ (w : Written). w .refusal ≡ 0 → (w .words ≡ packed c) × (goodOf c ≡ true)) (goodOf c) _ _
+    (λ g h. (refl, g)) (λ g h. absurd (omega arith))
+
+pub written-no : (c : Car) → (writeOf c .refusal ≡ 0 → ⊥) → (writeOf c .refusal ≡ 18) × (goodOf c ≡ false)
+unfolding writeOf
+written-no c =
+    pick-case (λ (w : Written). (w .refusal ≡ 0 → ⊥) → (w .refusal ≡ 18) × (goodOf c ≡ false)) (goodOf c) _ _
+    (λ g h. absurd (h refl)) (λ g h. (refl, g))
+
 -- an accepted record that gives a car
 pub record Recorded (c : Car) : Type 0 where
   pub words : List ℕ
   pub accepted : Accepted words
-  pub gives : readOf words ≡ Loaded c
+  pub gives : readOf words ≡ gives c
 
 -- the good cars are exactly those that some accepted record gives
 pub good-exactly : (c : Car) → (goodOf c ≡ true → Recorded c) × (Recorded c → goodOf c ≡ true)
 good-exactly c = (
-  λ h. record { words = packed c; accepted = packed-accepted c h; gives = written-read c h },
-  λ r. read-written (r .words) c (r .gives) .1,
+  λ h. record { words = packed c; accepted = packed-accepted c h; gives = packed-read c h },
+  λ r. read-packed (r .words) c (r .gives) .1,
 )
 
--- ---- into a buffer
+-- ---- the writer into a buffer
 -- a car that was written into a buffer is read from the buffer's first twelve words
-pub saved-read : (c : Car) (buffer : List ℕ) → savedRefusal c buffer ≡ 0 → readOf (take 12 (savedBuffer c buffer)) ≡ Loaded c
+pub saved-read : (c : Car) (buffer : List ℕ) → savedRefusal c buffer ≡ 0 → readOf (take 12 (savedBuffer c buffer)) ≡ gives c
 unfolding savedRefusal savedBuffer pick
 saved-read c buffer = go (goodOf c) (ltb (length buffer) 12) refl
   where
     go : (g s : Bool) → goodOf c ≡ g → pick {A = ℕ} g (pick s 20 0) 18 ≡ 0
-        → readOf (take 12 (pick g (pick s buffer (packed c ++ drop 12 buffer)) buffer)) ≡ Loaded c
+        → readOf (take 12 (pick g (pick s buffer (packed c ++ drop 12 buffer)) buffer)) ≡ gives c
     go true true e h = absurd (omega arith)
-    go true false e h = rw (take-at (packed c) (drop 12 buffer) 12 (packed-length c)) (written-read c e)
+    go true false e h = rw (take-at (packed c) (drop 12 buffer) 12 (packed-length c)) (packed-read c e)
     go false s e h = absurd (omega arith)
+
+-- a good car fits every buffer of twelve words or more, and those past the twelfth are kept
+pub good-saved : (c : Car) (buffer : List ℕ) → goodOf c ≡ true → 12 ≤ length buffer
+    → (savedRefusal c buffer ≡ 0) × (savedBuffer c buffer ≡ packed c ++ drop 12 buffer)
+unfolding savedRefusal savedBuffer
+good-saved c buffer g h = let s = le-ltb (length buffer) 12 h in (rw (pick-true _ _ _ g) (pick-false _ _ _ s), rw (pick-true _ _ _ g) (pick-false _ _ _ s))
+
+-- a good car written into a buffer and read again is the same
+pub saved-read-good : (c : Car) (buffer : List ℕ) → goodOf c ≡ true → 12 ≤ length buffer
+    → (savedRefusal c buffer ≡ 0) × (readOf (take 12 (savedBuffer c buffer)) ≡ gives c)
+saved-read-good c buffer g h = let r = good-saved c buffer g h .0 in (r, saved-read c buffer r)
+
+-- an accepted record read and written into a buffer has the same words
+pub read-saved : (ws : List ℕ) (c : Car) (buffer : List ℕ) → readOf ws ≡ gives c → 12 ≤ length buffer
+    → (savedRefusal c buffer ≡ 0) × (savedBuffer c buffer ≡ ws ++ drop 12 buffer)
+read-saved ws c buffer r h = let p = read-packed ws c r in let s = good-saved c buffer (p .1) h in (s .0, rw (p .0) at (s .1))
 
 -- a buffer that was refused is kept
 pub saved-kept : (c : Car) (buffer : List ℕ) → (savedRefusal c buffer ≡ 0 → ⊥) → savedBuffer c buffer ≡ buffer

@@ -7,13 +7,13 @@ use Prim.Native.Nat.{ℕ}
 use native.Mathlib.Omega.{arith}
 use lib.Dec.{ltb}
 use lib.ListN.{length, drop, drop-of-length-le}
+use Rattle.kit.specs.Answer.{gives, refused}
 use Rattle.kit.specs.Pick.{pick, pick-true, pick-case}
 use Rattle.car.specs.declared.Car.{Car}
 use Rattle.car.specs.declared.lesson.Taught.{Taught}
 use Rattle.car.specs.Good.{goodOf}
 use Rattle.car.specs.Lesson.{eachAfter, answersAfter, taughtOf, untaught, lessonOf}
 use Rattle.car.specs.LessonLaws.{driven-good}
-use Rattle.record.specs.declared.Reading.the-variants.{Loaded, Refused}
 use Rattle.record.specs.Layout.{packed, unpacked}
 use Rattle.record.specs.LayoutLaws.{Fits, good-fits, packed-length}
 use Rattle.record.specs.Record.{sameWords, readOf}
@@ -64,18 +64,18 @@ module _ (c : Car) (events answers : List ℕ) where
   left-some words n e =
       let l : length words ≡ 12 = rw (sym e) (packed-length c) in
       rw (
-        pick-true (goodOf c) (Loaded c) (Refused 18) (lesson-known n),
+        pick-true (goodOf c) (gives c) (refused 18) (lesson-known n),
         drop-of-length-le words {i = 12} (omega arith),
         append-nil (packed (lessonOf c events answers .car)),
       )
 
 -- ---- the record that words are
 -- words that are those of the car which they give: whether it is accepted goes by the car
-read-marked : (ws : List ℕ) → sameWords (packed (unpacked ws)) ws ≡ true → readOf ws ≡ pick (goodOf (unpacked ws)) (Loaded (unpacked ws)) (Refused 18)
+read-marked : (ws : List ℕ) → sameWords (packed (unpacked ws)) ws ≡ true → readOf ws ≡ pick (goodOf (unpacked ws)) (gives (unpacked ws)) (refused 18)
 unfolding readOf
 read-marked ws e = rw e (go (goodOf (unpacked ws)))
   where
-    go : (g : Bool) → pick (g && true) (Loaded (unpacked ws)) (Refused 18) ≡ pick g (Loaded (unpacked ws)) (Refused 18)
+    go : (g : Bool) → pick (g && true) (gives (unpacked ws)) (refused 18) ≡ pick g (gives (unpacked ws)) (refused 18)
     go true = refl
     go false = refl
 
@@ -84,7 +84,7 @@ pub left-marked : (ws events answers : List ℕ) (c : Car) (s : Bool) → c ≡ 
 unfolding taughtLeft
 left-marked ws events answers c s e h t = rw (e, read-marked ws (rw e at (sym h ∙ t)))
 
-pub left-unread : (ws events answers : List ℕ) → Refused 18 ≡ readOf ws
+pub left-unread : (ws events answers : List ℕ) → refused 18 ≡ readOf ws
     → _≡_ {A = LessonLeft} (record { refusal = 18; words = ws; answers = answers; accepted = 0; refused = 0 }) (lessonLeft ws (readOf ws) events answers)
 unfolding lessonLeft
 left-unread ws events answers e = rw (sym e)

@@ -5,7 +5,7 @@ ghost use Prim.Native.Nat.{_≤_};
 ghost use lib.ListN.{length, drop};
 ghost use Rattle.record.specs.Layout.{packed};
 ghost use Rattle.record.specs.LayoutLaws.{Fits};
-ghost use Rattle.record.specs.Record.{readOf, writeOf, savedRefusal, savedBuffer};
+ghost use Rattle.record.specs.Record.{readingAnswer, readOf, writeOf, savedRefusal, savedBuffer};
 ghost use Rattle.record.specs.RecordLesson.{LessonLeft, taughtLeft, lessonLeft};
 use car::Car;
 use event::refusal::NOT_ACCEPTED;
@@ -43,7 +43,7 @@ pub fn write(car: Car) -> Written
 
 // The car that the words' fields say, where it is good and these are its words.
 pub fn read(words: [u32; 12]) -> Reading
-    ensures { λ r. ⌜ r ≡ readOf words ⌝ }
+    ensures { λ r. ⌜ readingAnswer r ≡ readOf words ⌝ }
 {
     let car = layout::unpack(words);
     if !car.good() {
@@ -57,7 +57,7 @@ pub fn read(words: [u32; 12]) -> Reading
 
 // The record in lent words, of which there have to be twelve.
 pub fn read_from(words: &[u32]) -> Reading
-    ensures { λ r. ⌜ r ≡ readOf (now (words .entry)) ⌝ }
+    ensures { λ r. ⌜ readingAnswer r ≡ readOf (now (words .entry)) ⌝ }
 {
     if words.len() != 12 {
         return Reading::Refused(NOT_ACCEPTED);
@@ -71,13 +71,15 @@ pub fn read_from(words: &[u32]) -> Reading
 pub fn write_into(car: Car, buffer: &mut [u32]) -> u32
     ensures { λ r. ⌜ (r ≡ savedRefusal car (now (buffer .entry))) × (now (buffer .exit) ≡ savedBuffer car (now (buffer .entry))) ⌝ }
 {
-    if !car.good() {
-        return NOT_ACCEPTED;
+    let written = write(car);
+    if written.refusal != 0 {
+        return written.refusal;
     }
     if buffer.len() < 12 {
         return SHORT_RECORD;
     }
-    save(car, buffer);
+    let words = written.words;
+    words::copy(&words, buffer);
     0
 }
 

@@ -1,20 +1,15 @@
 -- Lists of calls: document 01, "A lesson". The functions that a call cites are those of the code's contracts.
 -- Assumes nothing.
-use mathlib.Core.Bool.{Bool, false, _&&_}
 use mathlib.Core.List.{List, [], _∷_, _++_}
-use Prim.Native.Nat.{ℕ, _+_}
+use Prim.Native.Nat.{ℕ}
 use lib.Dec.{eqb, ltb}
 use lib.ListN.{length, drop}
 use Rattle.kit.specs.Pick.{pick}
-use Rattle.event.specs.declared.Reading.{Reading}
-use Rattle.event.specs.declared.Reading.the-variants.{Read, Refused}
-use Rattle.event.specs.Words.{readOf}
 use Rattle.car.specs.declared.Car.{Car}
 use Rattle.car.specs.declared.drive.Driven.{Driven}
 use Rattle.car.specs.declared.lesson.Taught.{Taught}
-use Rattle.car.specs.Drive.{checkOf, stepOf, driveOf}
+use Rattle.car.specs.Drive.{stepOf, driveOf}
 use Rattle.car.specs.Lesson.{answersOf, taughtOf, untaught, lessonOf, answersAfter}
-use Rattle.car.specs.Neighbours.{isTick, isLever}
 use Rattle.record.specs.Layout.{packed}
 use Rattle.record.specs.Record.{savedBuffer}
 use Rattle.trainer.specs.declared.Kept.{Kept}
@@ -91,54 +86,3 @@ withoutKept [] = []
 withoutKept (drove d ∷ os) = drove d ∷ withoutKept os
 withoutKept (taught t buffer ∷ os) = taught t buffer ∷ withoutKept os
 withoutKept (kept k buffer ∷ os) = withoutKept os
-
--- ---- words
--- a word is accepted, or an accepted tick, or an accepted word of the up-down lever
-abbrev pub accepted : Car → ℕ → Bool
-accepted c w = eqb (checkOf c w) 0
-
-unfoldable pub readTick : Reading → Bool
-readTick (Read e) = isTick e
-readTick (Refused n) = false
-
-unfoldable pub readLever : Reading → Bool
-readLever (Read e) = isLever e
-readLever (Refused n) = false
-
-abbrev pub acceptedTick : Car → ℕ → Bool
-acceptedTick c w = accepted c w && readTick (readOf w)
-
-abbrev pub acceptedLever : Car → ℕ → Bool
-acceptedLever c w = accepted c w && readLever (readOf w)
-
--- the accepted words of a list, how many of them are ticks, and how many move the up-down lever
-unfoldable pub acceptedWords : Car → List ℕ → List ℕ
-acceptedWords c [] = []
-acceptedWords c (w ∷ ws) =
-    pick (accepted c w) (w ∷ acceptedWords (stepOf c w .car) ws) (acceptedWords (stepOf c w .car) ws)
-
-unfoldable pub ticksOf : Car → List ℕ → ℕ
-ticksOf c [] = 0
-ticksOf c (w ∷ ws) = pick (acceptedTick c w) 1 0 + ticksOf (stepOf c w .car) ws
-
-unfoldable pub leversOf : Car → List ℕ → ℕ
-leversOf c [] = 0
-leversOf c (w ∷ ws) = pick (acceptedLever c w) 1 0 + leversOf (stepOf c w .car) ws
-
--- ---- (f)'s history: since the accepted word that last moved the up-down lever, the ticks accepted, and the D that it left
-pub record Since : Type 0 where
-  pub ticks : ℕ
-  pub left : ℕ
-
-abbrev pub never : Since
-never = record { ticks = 0; left = 0 }
-
-unfoldable pub sinceWord : Car → Since → ℕ → Since
-sinceWord c s w =
-    pick (acceptedLever c w) (record { ticks = 0; left = stepOf c w .car .cruise .desired })
-    (pick (acceptedTick c w) (record { ticks = s .ticks + 1; left = s .left })
-    s)
-
-unfoldable pub since : Car → Since → List ℕ → Since
-since c s [] = s
-since c s (w ∷ ws) = since (stepOf c w .car) (sinceWord c s w) ws

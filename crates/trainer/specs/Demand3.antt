@@ -1,36 +1,37 @@
 -- Demand 3: what holds of every list of calls from a fresh car. One field for each sentence, in its order.
 -- Positions in a list are said by splits: `words c ks ≡ us ++ w ∷ vs` says that w comes after us in the list's words.
 -- Assumes nothing.
-use mathlib.Core.Bool.{Bool, true, false}
+use mathlib.Core.Bool.{true}
 use mathlib.Core.Path.{_≡_}
 use mathlib.Core.List.{List, [], _∷_, _++_}
 use Prim.Native.Nat.{ℕ, _+_, _≤_, _<_}
 use lib.ListN.{length}
+use Rattle.desired.specs.Desired.{held}
 use Rattle.car.specs.declared.Car.{Car}
 use Rattle.car.specs.Car.{ceilingOf}
 use Rattle.car.specs.Distance.{visual, acoustic}
 use Rattle.car.specs.Good.{leverHeld}
 use Rattle.car.specs.Lesson.{driven, refusedOf, lessonOf}
-use Rattle.car.specs.Lever.{held}
 use Rattle.car.specs.Standing.{Good}
-use Rattle.trainer.specs.Calls.{Call, lesson, keep, outcome, refusalOf, ends, outcomes, words, given, withoutKeeps, withoutKept, accepted, acceptedTick, acceptedLever, acceptedWords, ticksOf, leversOf, Since, never, since}
-
--- (b) and (g) of neighbouring cars, those before and after one word; `tick` says whether it was an accepted tick
-pub record Neighbouring (tick : Bool) (c d : Car) : Type 0 where
-  -- (b) "between neighbouring cars neither passes neutral unseen"
-  pub up-down : 1 ≤ c .levers .updown → c .levers .updown ≤ 2 → 3 ≤ d .levers .updown → ⊥
-  pub down-up : 3 ≤ c .levers .updown → 1 ≤ d .levers .updown → d .levers .updown ≤ 2 → ⊥
-  pub forward-backward : c .levers .foreback ≡ 1 → d .levers .foreback ≡ 2 → ⊥
-  pub backward-forward : c .levers .foreback ≡ 2 → d .levers .foreback ≡ 1 → ⊥
-  -- (g) "A tick moves v by at most 108", and no other word moves it
-  pub speed-tick : tick ≡ true → (d .speed ≤ c .speed + 108) × (c .speed ≤ d .speed + 108)
-  pub speed-other : tick ≡ false → d .speed ≡ c .speed
+use Rattle.history.specs.Neighbours.{Neighbouring}
+use Rattle.history.specs.History.{acceptedTick, acceptedLever, acceptedWords, ticksOf, leversOf, Since, never, since}
+use Rattle.trainer.specs.Calls.{Call, lesson, keep, outcome, refusalOf, ends, outcomes, words, given, withoutKeeps, withoutKept}
 
 -- (f) "h, now − T, is the ticks accepted since the word that put L there; B is the D it left; D is the tick's formula, or B for h below 2"
 pub record Held (c : Car) (s : Since) : Type 0 where
   pub ticks : c .now ≡ c .levers .time + s .ticks
   pub base : c .levers .base ≡ s .left
   pub desired : c .cruise .desired ≡ held (ceilingOf (c .settings)) (c .levers .updown) (s .left) (s .ticks)
+
+-- (f) "the word that put L there": the last accepted word of the up-down lever among us, which leaves L where it stands after us
+pub record PutThere (c : Car) (us : List ℕ) : Type 0 where
+  pub before : List ℕ
+  pub word : ℕ
+  pub after : List ℕ
+  pub split : us ≡ before ++ word ∷ after
+  pub accepted : acceptedLever (driven c before) word ≡ true
+  pub last : leversOf (driven c (before ++ word ∷ [])) after ≡ 0
+  pub leaves : driven c (before ++ word ∷ []) .levers .updown ≡ driven c us .levers .updown
 
 pub record Demand3 (c : Car) (ks : List Call) : Type 0 where
   -- "The car obeys all of document 01's standing rules (a) to (g), and did so after each word."
@@ -42,7 +43,9 @@ pub record Demand3 (c : Car) (ks : List Call) : Type 0 where
       → Neighbouring (acceptedTick (driven c us) w) (driven c us) (driven c (us ++ w ∷ []))
   -- (f) with its history, after each word
   pub held-each : (us vs : List ℕ) → words c ks ≡ us ++ vs → leverHeld (driven c us) ≡ true → Held (driven c us) (since c never us)
-  -- (f) again, from the word w that put L there: no later one among vs moved it
+  -- (f) there is such a word: with L out and cruise on, a word put it there
+  pub held-word : (us vs : List ℕ) → words c ks ≡ us ++ vs → leverHeld (driven c us) ≡ true → PutThere c us
+  -- (f) from the word w that put L there: no later one among vs moved it
   pub held-since : (us : List ℕ) (w : ℕ) (vs zs : List ℕ) → words c ks ≡ us ++ w ∷ vs ++ zs
       → acceptedLever (driven c us) w ≡ true → leversOf (driven c (us ++ w ∷ [])) vs ≡ 0 → leverHeld (driven c (us ++ w ∷ vs)) ≡ true
       → Held (driven c (us ++ w ∷ vs)) (record { ticks = ticksOf (driven c (us ++ w ∷ [])) vs; left = driven c (us ++ w ∷ []) .cruise .desired })

@@ -4,167 +4,37 @@
 use mathlib.Core.Bool.{Bool, true, false, true≢false}
 use mathlib.Core.Path.{_≡_, refl, sym, ap, _∙_}
 use mathlib.Core.List.{List, [], _∷_, _++_}
-use Prim.Native.Nat.{ℕ, _+_, _-_, _≤_}
+use Prim.Native.Nat.{ℕ, _+_, _-_}
 use native.Mathlib.Omega.{arith}
-use borrow.Author.Tests.{eq-eqb, ne-eqb, lt-ltb, le-ltb}
+use borrow.Author.Tests.{lt-ltb, le-ltb}
 use lib.Dec.{eqb, ltb}
 use lib.ListN.{length, drop}
-use Rattle.kit.specs.Pick.{pick, pick-true, pick-false, and-left, and-next}
+use Rattle.kit.specs.Pick.{pick, pick-true, pick-false, and-left}
 use Rattle.event.specs.declared.Event.{Event}
-use Rattle.event.specs.declared.Reading.the-variants as reading
-use Rattle.event.specs.Words.{readOf}
 use Rattle.car.specs.declared.Car.{Car}
-use Rattle.car.specs.declared.Fresh.the-variants.{Made}
 use Rattle.car.specs.declared.Levers.{Levers}
-use Rattle.car.specs.declared.drive.Driven.{Driven}
-use Rattle.car.specs.Car.{freshCar, settingsOf, freshOf}
-use Rattle.car.specs.DistanceLaws.{acoustic-visual}
-use Rattle.car.specs.Drive.{checkOf, stepOf, driveOf, eventNext}
+use Rattle.car.specs.Car.{freshCar, settingsOf, Permitted}
+use Rattle.history.specs.WarningLaws.{acoustic-visual}
+use Rattle.car.specs.Drive.{stepOf, driveOf}
 use Rattle.car.specs.Good.{goodOf, leverHeld}
-use Rattle.car.specs.GoodLaws.{good, made-good}
-use Rattle.car.specs.Lesson.{driven, answersOf, acceptedOf, refusedOf, taughtOf, untaught, lessonOf, answersAfter, eachAfter}
-use Rattle.car.specs.LessonLaws.{driven-good, refusal-le}
-use Rattle.car.specs.Neighbours.{isTick, isLever, Neighbours}
-use Rattle.car.specs.StepLaws.{Stepping, went, stayed, stepping, step-good, step-refusal, drive-step, next-neighbours}
+use Rattle.car.specs.FreshLaws.{permitted-good}
+use Rattle.car.specs.GoodLaws.{good}
+use Rattle.car.specs.Lesson.{driven, answersOf, taughtOf, untaught, lessonOf, answersAfter, eachAfter}
+use Rattle.car.specs.LessonLaws.{driven-good, refusal-le, counts-all}
+use Rattle.car.specs.StepLaws.{step-good, drive-step}
+use Rattle.history.specs.Neighbours.{isLever}
+use Rattle.history.specs.History.{acceptedLever, ticksOf, leversOf, Since, never}
+use Rattle.history.specs.HistoryLaws.{Accepted, Word, took, left, word-view, driven-append, now-all, neighbouring-step, Times, times-all, times-on, alone-all}
 use Rattle.record.specs.Layout.{packed}
 use Rattle.record.specs.Record.{savedRefusal, savedBuffer}
 use Rattle.record.specs.RecordLaws.{saved-read}
 use Rattle.trainer.specs.RecordCall.{readBack, keptOf}
-use Rattle.trainer.specs.Calls.{Call, word, lesson, keep, Outcome, drove, taught, kept, outcome, carOf, refusalOf, ends, outcomes, ran, words, given, withoutKeeps, withoutKept, accepted, readTick, readLever, acceptedTick, acceptedLever, acceptedWords, ticksOf, leversOf, Since, never, sinceWord, since}
-use Rattle.trainer.specs.Demand3.{Neighbouring, Held, Demand3}
+use Rattle.trainer.specs.Calls.{Call, word, lesson, keep, Outcome, drove, taught, kept, outcome, carOf, refusalOf, ends, outcomes, ran, words, given, withoutKeeps, withoutKept}
+use Rattle.trainer.specs.Demand3.{Held, PutThere, Demand3}
 
+-- ---- (f) from its history
 no : {A : Type 0} → true ≡ false → A
 no e = absurd (true≢false e)
-
--- ---- one word
--- an accepted word is an event whose rule gives the next car; a refused one leaves the car
-record Accepted (c : Car) (w : ℕ) (e : Event) : Type 0 where
-  pub next : stepOf c w .car ≡ eventNext c e
-  pub neighbours : Neighbours c e (stepOf c w .car)
-  pub tick : acceptedTick c w ≡ isTick e
-  pub lever : acceptedLever c w ≡ isLever e
-
-data Word (c : Car) (w : ℕ) : Type 0 where
-  took : (e : Event) → accepted c w ≡ true → Accepted c w e → Word c w
-  left : accepted c w ≡ false → stepOf c w .car ≡ c → Word c w
-
-read-tick : (w : ℕ) (e : Event) → readOf w ≡ reading.Read e → (readTick (readOf w) ≡ isTick e) × (readLever (readOf w) ≡ isLever e)
-unfolding readTick readLever
-read-tick w e h = (rw h, rw h)
-
-word-view : (c : Car) (w : ℕ) → goodOf c ≡ true → Word c w
-word-view c w g = by (stepping c w)
-  where
-    by : Stepping c w → Word c w
-    by (went e r i h z q) =
-        let a = eq-eqb (checkOf c w) 0 z in
-        let t = read-tick w e r in
-        let d = ap (λ (d : Driven). d .car) q in
-        took e a (record {
-          next = d;
-          neighbours = rw d (next-neighbours c e (good c g) h);
-          tick = and-next _ _ a ∙ t .0;
-          lever = and-next _ _ a ∙ t .1;
-        })
-    by (stayed n q) = left (ne-eqb (checkOf c w) 0 n) (ap (λ (d : Driven). d .car) q)
-
--- a word is accepted or refused
-one : (p : Bool) → pick p 1 0 + pick p 0 1 ≡ 1
-unfolding pick
-one true = refl
-one false = refl
-
--- ---- words
-driven-append : (c : Car) (us vs : List ℕ) → driven c (us ++ vs) ≡ driven (driven c us) vs
-unfolding driven
-driven-append c [] vs = refl
-driven-append c (w ∷ us) vs = driven-append (stepOf c w .car) us vs
-
--- the clock
-ticked-now : (c : Car) (w : ℕ) (t : Bool) (e : Event) → isTick e ≡ t → Accepted c w e → stepOf c w .car .now ≡ c .now + pick t 1 0
-unfolding pick
-ticked-now c w true e h a = a .neighbours .clock-tick h
-ticked-now c w false e h a = a .neighbours .clock-other h ∙ omega arith
-
-now-step : (c : Car) (w : ℕ) → goodOf c ≡ true → stepOf c w .car .now ≡ c .now + pick (acceptedTick c w) 1 0
-now-step c w g = by (word-view c w g)
-  where
-    by : Word c w → stepOf c w .car .now ≡ c .now + pick (acceptedTick c w) 1 0
-    by (took e _ a) = rw (a .tick) (ticked-now c w (isTick e) e refl a)
-    by (left n q) = rw (q, pick-false {A = ℕ} (acceptedTick c w) 1 0 (and-left _ _ n)) (omega arith)
-
-now-all : (c : Car) (ws : List ℕ) → goodOf c ≡ true → driven c ws .now ≡ c .now + ticksOf c ws
-unfolding driven ticksOf
-now-all c [] g = omega arith
-now-all c (w ∷ ws) g = omega (arith, now-all (stepOf c w .car) ws (step-good c w g), now-step c w g)
-
--- neighbouring cars
-same-neighbouring : (t : Bool) (c : Car) → t ≡ false → Neighbouring t c c
-same-neighbouring t c n = record {
-  up-down = λ a b d. omega arith;
-  down-up = λ a b d. omega arith;
-  forward-backward = λ a b. omega arith;
-  backward-forward = λ a b. omega arith;
-  speed-tick = λ h. no (sym h ∙ n);
-  speed-other = λ _. refl;
-}
-
-neighbouring-step : (c : Car) (w : ℕ) → goodOf c ≡ true → Neighbouring (acceptedTick c w) c (stepOf c w .car)
-neighbouring-step c w g = by (word-view c w g)
-  where
-    by : Word c w → Neighbouring (acceptedTick c w) c (stepOf c w .car)
-    by (took e _ a) =
-        let n = a .neighbours in
-        record {
-          up-down = n .up-down;
-          down-up = n .down-up;
-          forward-backward = n .forward-backward;
-          backward-forward = n .backward-forward;
-          speed-tick = λ h. n .speed-tick (sym (a .tick) ∙ h);
-          speed-other = λ h. n .speed-other (sym (a .tick) ∙ h);
-        }
-    by (left n q) = rw q (same-neighbouring _ c (and-left _ _ n))
-
--- ---- (f): T is ticks before now, and B is the D that was left, while the lever is held
-abbrev Times : Car → Since → Type 0
-Times c s = leverHeld c ≡ true → (c .now ≡ c .levers .time + s .ticks) × (c .levers .base ≡ s .left)
-
--- the history over one accepted word, by whether it is a lever's word or a tick
-times-took : (c : Car) (s : Since) (w : ℕ) (e : Event) → Accepted c w e → Times c s
-    → (l t : Bool) → isLever e ≡ l → isTick e ≡ t
-    → Times (stepOf c w .car) (pick l (record { ticks = 0; left = stepOf c w .car .cruise .desired }) (pick t (record { ticks = s .ticks + 1; left = s .left }) s))
-unfolding pick
-times-took c s w e a h true t l k = λ q. let n = a .neighbours .lever-out l q in (omega (arith, n .0), n .1)
-times-took c s w e a h false true l k = λ q.
-    let n = a .neighbours .lever-kept l q in
-    let v = h (n .0) in
-    let u = ap (λ (x : Levers). x .time) (n .1) in
-    let b = ap (λ (x : Levers). x .base) (n .1) in
-    (omega (arith, a .neighbours .clock-tick k), b ∙ v .1)
-times-took c s w e a h false false l k = λ q.
-    let n = a .neighbours .lever-kept l q in
-    let v = h (n .0) in
-    let u = ap (λ (x : Levers). x .time) (n .1) in
-    let b = ap (λ (x : Levers). x .base) (n .1) in
-    (omega (arith, a .neighbours .clock-other k), b ∙ v .1)
-
-times-step : (c : Car) (s : Since) (w : ℕ) → goodOf c ≡ true → Times c s → Times (stepOf c w .car) (sinceWord c s w)
-unfolding sinceWord
-times-step c s w g h = by (word-view c w g)
-  where
-    by : Word c w → Times (stepOf c w .car) (sinceWord c s w)
-    by (took e _ a) = rw (a .lever, a .tick) (times-took c s w e a h (isLever e) (isTick e) refl refl)
-    by (left n q) =
-        rw (
-          pick-false (acceptedLever c w) (record { ticks = 0; left = stepOf c w .car .cruise .desired }) (pick (acceptedTick c w) (record { ticks = s .ticks + 1; left = s .left }) s) (and-left _ _ n),
-          pick-false (acceptedTick c w) (record { ticks = s .ticks + 1; left = s .left }) s (and-left _ _ n),
-          q,
-        ) h
-
-times-all : (c : Car) (s : Since) (ws : List ℕ) → goodOf c ≡ true → Times c s → Times (driven c ws) (since c s ws)
-unfolding driven since
-times-all c s [] g h = h
-times-all c s (w ∷ ws) g h = times-all (stepOf c w .car) (sinceWord c s w) ws (step-good c w g) (times-step c s w g h)
 
 -- and D is the formula's
 held-of : (c : Car) (s : Since) → goodOf c ≡ true → leverHeld c ≡ true → Times c s → Held c s
@@ -172,29 +42,6 @@ held-of c s g q h =
     let v = h q in
     let n : c .now - c .levers .time ≡ s .ticks = omega (arith, v .0) in
     record { ticks = v .0; base = v .1; desired = rw (n, v .1) at (good c g .hold q) }
-
--- with no accepted word of the lever on the way, the ticks add up and what was left stays
-plain : (l t : Bool) (s : Since) (x : ℕ) → pick {A = ℕ} l 1 0 ≤ 0
-    → (pick {A = Since} l (record { ticks = 0; left = x }) (pick t (record { ticks = s .ticks + 1; left = s .left }) s) .ticks ≡ s .ticks + pick t 1 0)
-    × (pick {A = Since} l (record { ticks = 0; left = x }) (pick t (record { ticks = s .ticks + 1; left = s .left }) s) .left ≡ s .left)
-unfolding pick
-plain true t s x h = absurd (omega arith)
-plain false true s x h = (refl, refl)
-plain false false s x h = (omega arith, refl)
-
-since-plain : (c : Car) (s : Since) (w : ℕ) → pick {A = ℕ} (acceptedLever c w) 1 0 ≤ 0
-    → (sinceWord c s w .ticks ≡ s .ticks + pick (acceptedTick c w) 1 0) × (sinceWord c s w .left ≡ s .left)
-unfolding sinceWord
-since-plain c s w = plain (acceptedLever c w) (acceptedTick c w) s (stepOf c w .car .cruise .desired)
-
-times-on : (c : Car) (s : Since) (ws : List ℕ) → goodOf c ≡ true → leversOf c ws ≡ 0 → Times c s
-    → Times (driven c ws) (record { ticks = s .ticks + ticksOf c ws; left = s .left })
-unfolding driven ticksOf leversOf
-times-on c s [] g z h = λ q. let v = h q in (omega (arith, v .0), v .1)
-times-on c s (w ∷ ws) g z h = λ q.
-    let v = times-on (stepOf c w .car) (sinceWord c s w) ws (step-good c w g) (omega arith) (times-step c s w g h) q in
-    let e = since-plain c s w (omega arith) in
-    (omega (arith, v .0, e .0), v .1 ∙ e .1)
 
 -- from the word that put L there
 held-since-of : (c : Car) (w : ℕ) (vs : List ℕ) → goodOf c ≡ true → acceptedLever c w ≡ true → leversOf (stepOf c w .car) vs ≡ 0
@@ -209,29 +56,43 @@ held-since-of c w vs g l z q =
     start (took e _ a) = λ p. let n = a .neighbours .lever-out (sym (a .lever) ∙ l) p in (omega (arith, n .0), n .1)
     start (left n k) = no (sym l ∙ and-left _ _ n)
 
--- ---- the accepted words alone
-alone-all : (c : Car) (ws : List ℕ) → goodOf c ≡ true
-    → (driven c (acceptedWords c ws) ≡ driven c ws) × (refusedOf c (acceptedWords c ws) ≡ 0)
-unfolding driven acceptedWords refusedOf
-alone-all c [] g = (refl, refl)
-alone-all c (w ∷ ws) g = by (word-view c w g) (alone-all (stepOf c w .car) ws (step-good c w g))
+-- a lever that is out with cruise on was put there by a word, or stood so from the start
+data Put (c : Car) (ws : List ℕ) : Type 0 where
+  by-word : PutThere c ws → Put c ws
+  from-start : leverHeld c ≡ true → leversOf c ws ≡ 0 → c .levers .updown ≡ driven c ws .levers .updown → Put c ws
+
+put-all : (c : Car) (ws : List ℕ) → goodOf c ≡ true → leverHeld (driven c ws) ≡ true → Put c ws
+unfolding driven leversOf
+put-all c [] g q = from-start q refl refl
+put-all c (w ∷ ws) g q = by (put-all (stepOf c w .car) ws (step-good c w g) q) (word-view c w g)
   where
-    rest : List ℕ
-    rest = acceptedWords (stepOf c w .car) ws
+    none : acceptedLever c w ≡ false → leversOf (stepOf c w .car) ws ≡ 0 → pick {A = ℕ} (acceptedLever c w) 1 0 + leversOf (stepOf c w .car) ws ≡ 0
+    none n z = omega (arith, pick-false {A = ℕ} (acceptedLever c w) 1 0 n)
 
-    by : Word c w → (driven (stepOf c w .car) rest ≡ driven (stepOf c w .car) ws) × (refusedOf (stepOf c w .car) rest ≡ 0)
-        → (driven c (pick (accepted c w) (w ∷ rest) rest) ≡ driven (stepOf c w .car) ws) × (refusedOf c (pick (accepted c w) (w ∷ rest) rest) ≡ 0)
-    by (took e a _) ih =
-        let r : eqb (stepOf c w .refusal) 0 ≡ true = rw (step-refusal c w) a in
-        let p = pick-true {A = ℕ} (eqb (stepOf c w .refusal) 0) 0 1 r in
-        rw (pick-true (accepted c w) (w ∷ rest) rest a) (ih .0, omega (arith, p, ih .1))
-    by (left n q) ih = rw (pick-false (accepted c w) (w ∷ rest) rest n) (rw q (rw q at (ih .0)), rw q (rw q at (ih .1)))
+    first : (e : Event) → Accepted c w e → leverHeld (stepOf c w .car) ≡ true → leversOf (stepOf c w .car) ws ≡ 0
+        → stepOf c w .car .levers .updown ≡ driven (stepOf c w .car) ws .levers .updown → (l : Bool) → isLever e ≡ l → Put c (w ∷ ws)
+    first e a h z s true l = by-word (record { before = []; word = w; after = ws; split = refl; accepted = a .lever ∙ l; last = z; leaves = s })
+    first e a h z s false l =
+        let n = a .neighbours .lever-kept l h in
+        from-start (n .0) (none (a .lever ∙ l) z) (ap (λ (x : Levers). x .updown) (sym (n .1)) ∙ s)
 
--- ---- the counts
-counts-all : (c : Car) (ws : List ℕ) → acceptedOf c ws + refusedOf c ws ≡ length ws
-unfolding acceptedOf refusedOf
-counts-all c [] = refl
-counts-all c (w ∷ ws) = omega (arith, counts-all (stepOf c w .car) ws, one (eqb (stepOf c w .refusal) 0))
+    by : Put (stepOf c w .car) ws → Word c w → Put c (w ∷ ws)
+    by (by-word p) _ = by-word (record {
+      before = w ∷ p .before;
+      word = p .word;
+      after = p .after;
+      split = ap (λ (x : List ℕ). w ∷ x) (p .split);
+      accepted = p .accepted;
+      last = p .last;
+      leaves = p .leaves;
+    })
+    by (from-start h z s) (took e _ a) = first e a h z s (isLever e) refl
+    by (from-start h z s) (left n k) =
+        from-start (rw k at h) (none (and-left _ _ n) z) (ap (λ (x : Car). x .levers .updown) (sym k) ∙ s)
+
+put-there : (c : Car) (ws : List ℕ) → (leverHeld c ≡ true → ⊥) → Put c ws → PutThere c ws
+put-there c ws idle (by-word p) = p
+put-there c ws idle (from-start h _ _) = absurd (idle h)
 
 -- ---- a call
 -- a record call of a good car: refused by 20, or it reads back the car that it wrote
@@ -271,7 +132,7 @@ lesson-good c ws buffer g = rw g (go (ltb (length buffer) (length ws)))
     go false = refl
 
 -- from a good car each call gives what the document gives
-outcome-given : (c : Car) (k : Call) → goodOf c ≡ true → outcome c k ≡ given c k
+pub outcome-given : (c : Car) (k : Call) → goodOf c ≡ true → outcome c k ≡ given c k
 outcome-given c (word w) g = word-good c w g
 outcome-given c (lesson ws buffer) g = lesson-good c ws buffer g
 outcome-given c (keep buffer) g = keep-good c buffer g
@@ -383,6 +244,7 @@ from-good c ks g idle zero = record {
   standing-each = λ us vs _. good _ (driven-good c us g);
   neighbours = λ us w vs _. rw (driven-append c us (w ∷ [])) (neighbouring-step _ w (driven-good c us g));
   held-each = λ us vs _ q. held-of _ _ (driven-good c us g) q (times-all c never us g (λ p. absurd (idle p)));
+  held-word = λ us vs _ q. put-there c us idle (put-all c us g q);
   held-since = λ us w vs zs _.
       rw (driven-append c us (w ∷ []), driven-append c us (w ∷ vs)) (held-since-of (driven c us) w vs (driven-good c us g));
   warnings = λ us vs _. acoustic-visual (driven c us);
@@ -402,7 +264,5 @@ from-good c ks g idle zero = record {
 }
 
 -- "For every list of these calls .., refused ones included, from a fresh car with any permitted settings, the following holds after it."
-pub demand-3 : (mode signs : ℕ) (c : Car) → freshOf mode signs ≡ Made c → (ks : List Call) → Demand3 c ks
-demand-3 mode signs c made ks =
-    let m = made-good mode signs c made in
-    from-good c ks (m .1) (rw (m .0) (fresh-idle mode signs)) (rw (m .0) (fresh-clock mode signs))
+pub demand-3 : (mode signs : ℕ) → Permitted mode signs → (ks : List Call) → Demand3 (freshCar (settingsOf mode signs)) ks
+demand-3 mode signs p ks = from-good _ ks (permitted-good mode signs p) (fresh-idle mode signs) (fresh-clock mode signs)

@@ -5,16 +5,15 @@ use mathlib.Core.List.{List}
 use Prim.Native.Nat.{ℕ}
 use lib.Dec.{eqb}
 use lib.ListN.{take}
+use Rattle.kit.specs.Answer.{Answer, gives, refused}
 use Rattle.kit.specs.Pick.{pick}
 use Rattle.car.specs.declared.Car.{Car}
-use Rattle.record.specs.declared.Reading.{Reading}
-use Rattle.record.specs.declared.Reading.the-variants.{Loaded, Refused}
 use Rattle.record.specs.Record.{readOf, savedRefusal, savedBuffer}
 use Rattle.trainer.specs.declared.Kept.{Kept}
 
-unfoldable pub readBack : Car → Reading → Kept
-readBack c (Loaded d) = record { car = d; refusal = 0 }
-readBack c (Refused n) = record { car = c; refusal = n }
+unfoldable pub readBack : Car → Answer Car → Kept
+readBack c (gives d) = record { car = d; refusal = 0 }
+readBack c (refused n) = record { car = c; refusal = n }
 
 unfoldable pub keptOf : Car → List ℕ → Kept
 keptOf c buffer =

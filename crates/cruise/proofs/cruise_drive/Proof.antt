@@ -13,5 +13,6 @@ cruise-drive-spec =
     (λ c. search needs)
     (λ c. drive-refused _ _ _ (c .before .before .before .before .cruise-lesson .ensures) (c .if1 .taken))
     (λ c. search needs)
+    (λ c κs. search needs)
     (λ c. search needs)
-    (λ c. drive-answered _ _ _ (c .before .before .before .before .cruise-lesson .ensures) (c .if1 .left)))
+    (λ c. drive-answered _ _ _ _ (c .before .before .before .before .before .cruise-lesson .ensures) (c .before .if1 .left) (c .read .ensures)))

@@ -13,5 +13,5 @@ cruise-fresh-spec =
     (λ c κs. search needs)
     (λ c. search needs)
     (λ c. search needs)
-    (λ c. let w = c .before .before .write-into .ensures in rw (← c .before .before .before .before .before .before .before .fresh .ensures, c .before .before .before .before .before .car .given .1) cc)
-    (λ c. rw (← c .before .before .before .fresh .ensures, c .before .n .given .1)))
+    (λ c. let w = c .before .before .write-into .ensures in rw (← c .before .before .before .before .before .before .before .start .ensures, c .before .before .before .before .before .car .given .1) cc)
+    (λ c. rw (← c .before .before .before .start .ensures, c .before .n .given .1)))

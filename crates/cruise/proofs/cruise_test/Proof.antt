@@ -1,10 +1,10 @@
-use Rattle.cruise.specs.Cruise.{testOf}
+use Rattle.kit.specs.Answer.{numberOf}
 use borrow.Author.Needs.{needs}
 use Rattle.cruise.proofs.cruise_test.Statement.{statement}
 use Rattle.cruise.proofs.cruise_test.Tie as tie
 
 pub cruise-test-spec : {M : Type 1} → statement M
-unfolding testOf
+unfolding numberOf
 cruise-test-spec =
     tie.close
     (tie.spec

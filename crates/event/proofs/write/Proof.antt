@@ -1,17 +1,21 @@
 use borrow.Author.Needs.{needs}
-use borrow.Author.Tests.{not-false}
-use mathlib.Core.Path.{sym, _∙_}
-use Rattle.kit.specs.Pick.{picks}
-use Rattle.event.specs.Words.{writeOf}
+use native.Mathlib.Omega.{arith}
+use Rattle.kit.specs.Pick.{pick}
+use Rattle.event.specs.Words.{inRange, wordOf, writeOf}
+use Rattle.event.specs.WordLaws.{bit-le}
 use Rattle.event.proofs.write.Statement.{statement}
 use Rattle.event.proofs.write.Tie as tie
 
 pub write-spec : {M : Type 1} → statement M
-unfolding writeOf
+unfolding writeOf inRange wordOf pick
 write-spec =
     tie.close
     (tie.spec
+    (λ c. search needs)
     (λ c κs. search needs)
-    (λ c. search (picks, ← c .before .in-range .ensures))
-    (λ c κs. sym (c .before .in-range .ensures) ∙ not-false _ (c .if1 .left))
-    (λ c. search (picks, ← c .before .before .in-range .ensures, c .word .ensures)))
+    (λ c. search needs)
+    (λ c. search needs)
+    (λ c κs. search needs)
+    (λ c. omega (arith, c .bit .ensures, bit-le (c .before .before .event2 .given .0 .0)))
+    (λ c. rw (c .before .before .event .given .1) (c .write-input .ensures))
+    (λ c. rw (c .before .before .event2 .given .1, c .bit .ensures)))

@@ -5,10 +5,11 @@ use Rattle.lister.proofs.events.Statement.{statement}
 use Rattle.lister.proofs.events.Tie as tie
 
 abbrev Inv-loop : tie.InvT-loop
-Inv-loop input words₀ rows₀ out₀ place₀ pages₀ words rows out place pages = (length words ≡ length words₀) × (length rows ≡ length rows₀) × (length out ≡ length out₀)
+Inv-loop input words₀ answers₀ speeds₀ out₀ place₀ pages₀ words answers speeds out place pages =
+    (length words ≡ length words₀) × (length answers ≡ length answers₀) × (length speeds ≡ length speeds₀) × (length out ≡ length out₀)
 
 abbrev μ-loop : tie.MeasureT-loop
-μ-loop input words₀ rows₀ out₀ place₀ pages₀ words rows out place pages = pages
+μ-loop input words₀ answers₀ speeds₀ out₀ place₀ pages₀ words answers speeds out place pages = pages
 
 pub events-spec : {M : Type 1} → statement M
 events-spec =
@@ -18,6 +19,8 @@ events-spec =
     μ-loop
     (λ c. search needs)
     (λ c κs. search needs)
+    (λ c. search needs)
+    (λ c. search needs)
     (λ c. search needs)
     (λ c. search needs)
     (λ c. search needs)

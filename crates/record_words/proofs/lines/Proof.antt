@@ -1,13 +1,14 @@
-use Prim.Native.Nat.{_≤_, _-_}
 use borrow.Author.Needs.{needs}
+use mathlib.Core.Path.{_≡_}
+use lib.ListN.{length}
 use Rattle.record_words.proofs.lines.Statement.{statement}
 use Rattle.record_words.proofs.lines.Tie as tie
 
 abbrev Inv-loop : tie.InvT-loop
-Inv-loop bytes count i₀ at₀ i at = i ≤ count
+Inv-loop count₀ left₀ count left = length count ≡ 1
 
 abbrev μ-loop : tie.MeasureT-loop
-μ-loop bytes count i₀ at₀ i at = count - i
+μ-loop count₀ left₀ count left = left
 
 pub lines-spec : {M : Type 1} → statement M
 lines-spec =
@@ -16,10 +17,10 @@ lines-spec =
     Inv-loop
     μ-loop
     (λ c. search needs)
+    (λ c. search needs)
     (λ c κs. search needs)
-    (λ c κs. search needs)
-    (λ c κs. search needs)
-    (λ c κs. search needs)
+    (λ c. search needs)
+    (λ c. search needs)
     (λ c κs. search needs)
     (λ c. search needs)
     (λ c. search needs)

@@ -1,3 +1,4 @@
+use Rattle.record.specs.Record.{readingAnswer}
 use Rattle.trainer.specs.RecordCall.{readBack}
 use Rattle.trainer.specs.RecordCallLaws.{short-unread}
 use borrow.Author.Needs.{needs}
@@ -16,5 +17,5 @@ read-back-spec =
     (λ c κs. search needs)
     (λ c. search needs)
     (λ c. search needs)
-    (λ c. sym (ap (readBack _) (sym (c .before .before .before .read-from .ensures) ∙ c .before .read .given .1)))
-    (λ c. sym (ap (readBack _) (sym (c .before .before .before .read-from .ensures) ∙ c .before .n .given .1))))
+    (λ c. sym (ap (readBack _) (sym (c .before .before .before .read-from .ensures) ∙ ap readingAnswer (c .before .read .given .1))))
+    (λ c. sym (ap (readBack _) (sym (c .before .before .before .read-from .ensures) ∙ ap readingAnswer (c .before .n .given .1)))))

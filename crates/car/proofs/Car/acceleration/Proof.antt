@@ -1,4 +1,4 @@
-use Rattle.car.specs.CodeLaws.{decoded-code}
+use Rattle.car.specs.AccelerationShapeLaws.{decoded-code}
 use borrow.Author.Needs.{needs}
 use Rattle.car.proofs.Car.acceleration.Statement.{statement}
 use Rattle.car.proofs.Car.acceleration.Tie as tie
@@ -9,4 +9,4 @@ acceleration-spec =
     (tie.spec
     (λ c κs. search needs)
     (λ c κs. search needs)
-    (λ c. rw (c .decoded .ensures, c .before .acceleration-code .ensures) (decoded-code _ (c .before .before .pre))))
+    (λ c. rw (c .decoded .ensures, c .before .acceleration-code .ensures) (decoded-code _ (c .before .before .pre .ranges))))

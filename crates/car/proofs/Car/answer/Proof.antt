@@ -1,8 +1,4 @@
-use Rattle.car.specs.Acceleration.{accelerationOf}
-use Rattle.car.specs.GoodLaws.{ceiling-le}
-use native.Mathlib.Omega.{arith}
-use Rattle.car.specs.LessonLaws.{code-le, warnings-le, answer-parts}
-use Rattle.car.specs.AccelerationLaws.{acceleration-size}
+use Rattle.car.specs.LessonShapeLaws.{accepted-written}
 use borrow.Author.Needs.{needs}
 use Rattle.car.proofs.Car.answer.Statement.{statement}
 use Rattle.car.proofs.Car.answer.Tie as tie
@@ -12,9 +8,6 @@ answer-spec =
     tie.close
     (tie.spec
     (λ c κs. search needs)
-    (λ c. let w = warnings-le (c .before .args .self) in let p = c .before .pre in let k = code-le (accelerationOf (c .before .args .self)) (acceleration-size _ (p .0)) in omega (arith, c .warnings .ensures, w, p .1, k))
-    (λ c. let w = warnings-le (c .before .args .self) in let p = c .before .pre in let k = code-le (accelerationOf (c .before .args .self)) (acceleration-size _ (p .0)) in omega (arith, c .warnings .ensures, w, p .1, k))
-    (λ c. let w = warnings-le (c .before .args .self) in let p = c .before .pre in let k = code-le (accelerationOf (c .before .args .self)) (acceleration-size _ (p .0)) in omega (arith, c .warnings .ensures, w, p .1, k))
-    (λ c. let w = warnings-le (c .before .before .args .self) in let p = c .before .before .pre in let k = code-le (accelerationOf (c .before .before .args .self)) (acceleration-size _ (p .0)) in omega (arith, c .before .warnings .ensures, w, p .1, k, p .0 .desired, ceiling-le (c .before .before .args .self .settings)))
-    (λ c. let w = warnings-le (c .before .before .args .self) in let p = c .before .before .pre in let k = code-le (accelerationOf (c .before .before .args .self)) (acceleration-size _ (p .0)) in omega (arith, c .before .warnings .ensures, w, p .1, k, p .0 .desired, ceiling-le (c .before .before .args .self .settings)))
-    (λ c. rw (c .before .warnings .ensures, c .before .before .pre .1) (answer-parts _)))
+    (λ c κs. search needs)
+    (λ c κs. search needs)
+    (λ c. accepted-written _ _ _ _ _ (c .before .before .before .pre .0) (c .before .before .visual .ensures) (c .before .acoustic .ensures) (c .before .before .before .pre .1) (c .write .ensures)))

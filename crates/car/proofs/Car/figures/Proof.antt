@@ -1,5 +1,5 @@
 use Rattle.car.specs.Figures.{figuresOf, noFigures}
-use Rattle.car.specs.GoodLaws.{good-ranges}
+use Rattle.car.specs.GoodLaws.{good}
 use Rattle.kit.specs.Pick.{picks}
 use borrow.Author.Needs.{needs}
 use mathlib.Core.Path.{_∙_, sym}
@@ -12,6 +12,6 @@ figures-spec =
     tie.close
     (tie.spec
     (λ c κs. search needs)
-    (λ c κs. good-ranges _ (sym (c .before .good2 .ensures) ∙ c .if1 .taken))
+    (λ c κs. good _ (sym (c .before .good2 .ensures) ∙ c .if1 .taken))
     (λ c. search (picks, c .shown .ensures, ← c .before .before .good2 .ensures))
     (λ c. search (picks, ← c .before .good2 .ensures)))

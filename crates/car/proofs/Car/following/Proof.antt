@@ -1,4 +1,4 @@
-use Rattle.car.specs.Distance.{following}
+use Rattle.car.specs.DistanceShape.{following}
 use Rattle.kit.specs.Pick.{picks}
 use Rattle.car.proofs.Car.following.Statement.{statement}
 use Rattle.car.proofs.Car.following.Tie as tie

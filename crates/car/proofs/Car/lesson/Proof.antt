@@ -1,55 +1,20 @@
-use mathlib.Core.Path.{refl, sym, _∙_}
-use Rattle.car.specs.Lesson.{lessonOf, eachAfter}
-use borrow.Author.Tests.{lt-ltb, le-ltb, not-true, not-false}
-use Rattle.kit.specs.Pick.{pick}
+use mathlib.Core.Path.{sym, _∙_}
 use borrow.Author.Needs.{needs}
+use borrow.Author.Tests.{not-true, not-false}
+use Rattle.car.proofs.Lessons.{lesson-18, lesson-19, lesson-ran}
 use Rattle.car.proofs.Car.lesson.Statement.{statement}
 use Rattle.car.proofs.Car.lesson.Tie as tie
-
-good-requires : tie.Need-good-requires
-good-requires c κs = search needs
-
-untaught-requires : tie.Need-untaught-requires
-untaught-requires c κs = search needs
-
-returns : tie.Need-returns
-unfolding lessonOf eachAfter pick
-returns c =
-    let h = sym (c .before .before .good2 .ensures) ∙ not-true _ (c .before .if1 .taken) in
-    simp (h, c .untaught .ensures) (refl, refl)
-
-untaught-requires-2 : tie.Need-untaught-requires-2
-untaught-requires-2 c κs = search needs
-
-returns-2 : tie.Need-returns-2
-unfolding lessonOf eachAfter pick
-returns-2 c =
-    let h = sym (c .before .before .before .good2 .ensures) ∙ not-false _ (c .before .before .if1 .left) in
-    simp (h, lt-ltb _ _ (c .before .if2 .taken), c .untaught2 .ensures) (refl, refl)
-
-teach-requires : tie.Need-teach-requires
-unfolding lessonOf eachAfter pick
-teach-requires c κs =
-    (sym (c .before .before .before .good2 .ensures) ∙ not-false _ (c .before .before .if1 .left), c .before .if2 .left)
-
-same-length : tie.Need-same-length
-same-length c = search needs
-
-returns-3 : tie.Need-returns-3
-unfolding lessonOf eachAfter pick
-returns-3 c =
-    let h = sym (c .before .before .before .before .before .before .good2 .ensures) ∙ not-false _ (c .before .before .before .before .before .if1 .left) in
-    simp (h, le-ltb _ _ (c .before .before .before .before .if2 .left)) (c .before .before .teach .ensures)
 
 pub lesson-spec : {M : Type 1} → statement M
 lesson-spec =
     tie.close
     (tie.spec
-    good-requires
-    untaught-requires
-    returns
-    untaught-requires-2
-    returns-2
-    teach-requires
-    same-length
-    returns-3)
+    (λ c κs. search needs)
+    (λ c κs. search needs)
+    (λ c. let l = lesson-18 _ (c .before .before .before .before .before .args .words .now) (c .before .before .before .before .before .args .answers .now) (sym (c .before .before .good2 .ensures) ∙ not-true _ (c .before .if1 .taken)) in (c .untaught .ensures ∙ l .0, l .1))
+    (λ c κs. search needs)
+    (λ c. let l = lesson-19 _ (c .before .before .before .before .before .before .args .words .now) (c .before .before .before .before .before .before .args .answers .now) (sym (c .before .before .before .good2 .ensures) ∙ not-false _ (c .before .before .if1 .left)) (c .before .if2 .taken) in (c .untaught2 .ensures ∙ l .0, l .1))
+    (λ c. search needs)
+    (λ c κs. (sym (c .before .before .before .before .good2 .ensures) ∙ not-false _ (c .before .before .before .if1 .left), c .before .before .if2 .left))
+    (λ c. search needs)
+    (λ c. let t = c .before .before .before .teach .ensures in lesson-ran _ (c .before .before .before .before .before .before .before .before .before .before .before .args .words .now) (c .before .before .before .before .before .before .before .before .before .before .before .args .answers .now) _ _ (sym (c .before .before .before .before .before .before .before .before .good2 .ensures) ∙ not-false _ (c .before .before .before .before .before .before .before .if1 .left)) (c .before .before .before .before .before .before .if2 .left) (t .0) (t .1)))

@@ -13,4 +13,4 @@ move-up-down-spec =
     (λ c κs. search needs)
     (λ c κs. search needs)
     (λ c κs. search needs)
-    (λ c. cc))
+    (λ c. rw (c .before .before .before .before .before .manual-after .ensures, c .before .before .before .before .before .before .while-held2 .ensures, c .before .before .before .before .before .before .before .while-held .ensures, c .before .before .before .before .before .before .before .before .lever-desired .ensures)))

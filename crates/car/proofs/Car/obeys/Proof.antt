@@ -15,4 +15,4 @@ obeys-spec =
     (λ c κs. search needs)
     (λ c κs. search needs)
     (λ c κs. search needs)
-    (λ c. cc))
+    (λ c. rw (c .rule-f .ensures, c .before .rule-e .ensures, c .before .before .rule-d .ensures, c .before .before .before .rule-c .ensures, c .before .before .before .before .rule-b .ensures, c .before .before .before .before .before .rule-a .ensures, c .before .before .before .before .before .before .times .ensures)))

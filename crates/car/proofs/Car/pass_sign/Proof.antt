@@ -10,4 +10,4 @@ pass-sign-spec =
     tie.close
     (tie.spec
     (λ c κs. search needs)
-    (λ c. cc))
+    (λ c. rw (c .before .sign-after .ensures)))

@@ -11,4 +11,5 @@ ranges-spec =
     (λ c κs. search needs)
     (λ c κs. search needs)
     (λ c κs. search needs)
-    (λ c. cc))
+    (λ c κs. search needs)
+    (λ c. rw (c .permitted-gap .ensures, c .before .numbers .ensures, c .before .before .ceiling .ensures, c .before .before .before .positions .ensures)))

@@ -1,5 +1,5 @@
 use Rattle.car.specs.Good.{ruleA}
-use Rattle.kit.specs.Pick.{picks}
+use borrow.Author.Needs.{needs}
 use Rattle.car.proofs.Car.rule_a.Statement.{statement}
 use Rattle.car.proofs.Car.rule_a.Tie as tie
 
@@ -8,4 +8,5 @@ unfolding ruleA
 rule-a-spec =
     tie.close
     (tie.spec
-    (λ c. search picks))
+    (λ c κs. search needs)
+    (λ c. rw (c .off .ensures)))

@@ -1,7 +1,7 @@
 use mathlib.Core.Path.{ap, _∙_}
 use Prim.Native.Nat.{ℕ}
 use Rattle.car.specs.Distance.{metres}
-use Rattle.car.specs.DistanceLaws.{following-le, secure-standing, secure-following}
+use Rattle.car.specs.DistanceShape.{following-le, secure-standing, secure-following}
 use borrow.Author.Needs.{needs}
 use Rattle.car.proofs.Car.secure_distance.Statement.{statement}
 use Rattle.car.proofs.Car.secure_distance.Tie as tie

@@ -12,4 +12,4 @@ shown-spec =
     (λ c κs. search needs)
     (λ c κs. search needs)
     (λ c κs. search needs)
-    (λ c. cc))
+    (λ c. rw (c .secure-distance .ensures, c .before .acoustic .ensures, c .before .before .visual .ensures, c .before .before .before .acceleration .ensures)))

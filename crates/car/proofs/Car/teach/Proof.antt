@@ -1,100 +1,203 @@
-use mathlib.Core.Path.{_≡_, ap, _∙_}
 use mathlib.Core.Logic.{⊎-elim}
-use Prim.Native.Nat.{ℕ, _-_, _/_, _%_}
+use mathlib.Core.Path.{_≡_, refl, sym, ap, _∙_}
+use Prim.Native.Nat.{_+_, _-_}
 use native.Mathlib.Omega.{arith}
 use borrow.Author.Needs.{needs}
-use lib.ListN.{length}
-use Rattle.car.specs.GoodLaws.{good-ranges}
-use Rattle.car.specs.Lesson.{answerOf, acceptedAnswer}
-use Rattle.car.specs.LessonLaws.{answer-code}
+use lib.ListN.{length, take, drop, getD, length-set}
+use mathlib.Core.List.{_++_}
+use Rattle.event.specs.Words.{inputAnswer}
+use Rattle.motion.specs.Acceleration.{accelerationCode}
+use Rattle.car.specs.DriveLaws.{input-taken, input-refused, input-unread}
+use Rattle.car.specs.declared.Car.{Car}
+use Rattle.car.specs.Acceleration.{accelerationOf}
+use Rattle.car.specs.Drive.{stepOf}
+use Rattle.car.specs.GoodLaws.{good, good-ranges}
+use Rattle.car.specs.Lesson.{answerOf, speedOf, refuses}
+use Rattle.car.specs.LessonShape.{acceptedAnswer, overOf}
 use Rattle.car.specs.StepLaws.{step-good}
-use Rattle.car.proofs.Going.{Going, Met, met-accepted, met-refused, met-answer, met-fits, met-next, again-met, begins, ends}
+use Rattle.car.proofs.Going.{Going, Turned, turned-refused, turned-taken, stale-now, unchanged, tick-kept, took-due, took-undue, written, passed-by, again, answered, more, no-more, ends, begins}
 use Rattle.car.proofs.Car.teach.Statement.{statement}
 use Rattle.car.proofs.Car.teach.Tie as tie
 use Rattle.car.proofs.Car.teach.Reads as reads
 use Rattle.car.proofs.Car.teach.Lts as lts
+use Rattle.answer.proofs.refusing.Reads as refusing-reads
 use Rattle.car.proofs.Car.acceleration_code.Reads as acceleration-code-reads
 use Rattle.car.proofs.Car.answer.Reads as answer-reads
-use Rattle.car.proofs.lesson.code_in.Reads as code-in-reads
-use Rattle.car.proofs.Car.step.Reads as step-reads
+use Rattle.car.proofs.Car.check.Reads as check-reads
+use Rattle.car.proofs.Car.moved.Reads as moved-reads
+use Rattle.car.proofs.Car.next.Reads as next-reads
+use Rattle.car.proofs.Car.test_due.Reads as test-due-reads
+use Rattle.car.proofs.Car.test_radar.Reads as test-radar-reads
+use Rattle.car.proofs.Car.tick.Reads as tick-reads
+use Rattle.car.proofs.Car.tick_refusal.Reads as tick-refusal-reads
+use Rattle.event.proofs.is_tick.Reads as is-tick-reads
+use Rattle.event.proofs.read_input.Reads as read-input-reads
+use Rattle.event.proofs.tick_ready.Reads as tick-ready-reads
 
 abbrev Inv-loop : tie.InvT-loop
-Inv-loop words answers₀ car₀ accepted₀ refused₀ i₀ answer₀ answers car accepted refused i answer =
-    Going answerOf words answers₀ car₀ answers car accepted refused i × (answer ≡ acceptedAnswer car)
+Inv-loop words answers₀ speeds₀ car₀ refused₀ i₀ code₀ answer₀ answers speeds car refused i code answer =
+    Going words answers₀ speeds₀ car₀ answers speeds car refused i code answer
 
 abbrev μ-loop : tie.MeasureT-loop
-μ-loop words answers₀ car₀ accepted₀ refused₀ i₀ answer₀ answers car accepted refused i answer = length words - i
+μ-loop words answers₀ speeds₀ car₀ refused₀ i₀ code₀ answer₀ answers speeds car refused i code answer = length words - i
 
--- where the two ways meet
-met : (c : lts.Joined1 (acceleration-code-reads.Asked, acceleration-code-reads.Learnt, answer-reads.Asked, answer-reads.Learnt, code-in-reads.Asked, code-in-reads.Learnt, step-reads.Asked, step-reads.Learnt) reads.Pre reads.Post Inv-loop μ-loop)
-    → Met (c .before .before .before .before .before .before .loop .accepted) (c .before .before .before .before .before .before .loop .refused) (c .before .before .step .result) (c .if1 .car) (c .if1 .answer) (c .if1 .accepted) (c .if1 .refused)
-met c =
+-- what the word of a turn makes of the car, by the way that control came: a tick with a test, without one, refused; an input taken, refused,
+-- unread
+turned : (c : lts.Joined1 (acceleration-code-reads.Asked, acceleration-code-reads.Learnt, answer-reads.Asked, answer-reads.Learnt, is-tick-reads.Asked, is-tick-reads.Learnt, test-due-reads.Asked, test-due-reads.Learnt, tick-refusal-reads.Asked, tick-refusal-reads.Learnt, moved-reads.Asked, moved-reads.Learnt, tick-reads.Asked, tick-reads.Learnt, tick-ready-reads.Asked, tick-ready-reads.Learnt, test-radar-reads.Asked, test-radar-reads.Learnt, read-input-reads.Asked, read-input-reads.Learnt, check-reads.Asked, check-reads.Learnt, next-reads.Asked, next-reads.Learnt, refusing-reads.Asked, refusing-reads.Learnt) reads.Pre reads.Post Inv-loop μ-loop)
+    → Turned (c .before .before .before .before .loop .car) (getD (c .before .before .before .before .before .before .before .before .before .before .args .words .now) (c .before .before .before .before .loop .i) 0) (c .if1 .car) (c .if1 .refusal) (c .if1 .stale)
+turned c =
+    let is = c .before .is-tick .ensures in
     ⊎-elim
-    (λ w. met-accepted _ _ _ _ _ _ _ (w .0 .taken) (w .4) (w .7 ∙ w .3 .ensures) (w .5) (w .6))
-    (λ w. met-refused _ _ _ _ _ _ _ _ _ _ (c .before .before .step .ensures) (w .0 .left) (c .before .before .before .before .before .before .loop .inv .1) (w .1) (w .4) (w .2) (w .3))
+    (λ w. turned-taken _ _ _ _ _ _ (took-due _ _ (sym is ∙ w .0 .taken) _ (w .1 .ensures) _ (w .2 .ensures) (w .3 .taken) _ (w .4 .ensures) _ (w .9 .ensures) (w .10 .taken) _ (w .11 .ensures) _ (w .12 .ensures)) (w .13) (w .14 ∙ w .3 .taken) (stale-now _ (w .15)))
+    (⊎-elim
+    (λ w. turned-taken _ _ _ _ _ _ (took-undue _ _ (sym is ∙ w .0 .taken) _ (w .1 .ensures) _ (w .2 .ensures) (w .3 .taken) _ (w .4 .ensures) _ (w .9 .ensures) (w .10 .left)) (w .11) (w .12 ∙ w .3 .taken) (unchanged _ _ _ _ _ (w .11 ∙ w .9 .ensures) (w .13)))
+    (⊎-elim
+    (λ w. turned-refused _ _ _ _ _ _ (tick-kept _ _ (sym is ∙ w .0 .taken) _ (w .1 .ensures) _ (w .2 .ensures) (w .3 .left)) (w .4) (w .5))
+    (⊎-elim
+    (λ w. turned-taken _ _ _ _ _ _ (input-taken _ _ (sym is ∙ w .0 .left) _ (sym (w .1 .ensures) ∙ ap inputAnswer (w .3 .given .1)) (sym (w .5 .ensures) ∙ w .6 .taken)) (w .8 ∙ w .7 .ensures) (w .9 ∙ w .6 .taken) (stale-now _ (w .10)))
+    (⊎-elim
+    (λ w. turned-refused _ _ _ _ _ _ (rw (w .5 .ensures) (input-refused _ _ (sym is ∙ w .0 .left) _ (sym (w .1 .ensures) ∙ ap inputAnswer (w .3 .given .1)) (λ z. w .6 .left (w .5 .ensures ∙ z)))) (w .7) (w .8))
+    (λ w. turned-refused _ _ _ _ _ _ (input-unread _ _ (sym is ∙ w .0 .left) _ (sym (w .1 .ensures) ∙ ap inputAnswer (w .3 .given .1))) (w .5) (w .6))))))
     (c .if1 .came)
 
+-- the figures after it, worked out again or kept
+shown : (c : lts.Joined5 (acceleration-code-reads.Asked, acceleration-code-reads.Learnt, answer-reads.Asked, answer-reads.Learnt, is-tick-reads.Asked, is-tick-reads.Learnt, test-due-reads.Asked, test-due-reads.Learnt, tick-refusal-reads.Asked, tick-refusal-reads.Learnt, moved-reads.Asked, moved-reads.Learnt, tick-reads.Asked, tick-reads.Learnt, tick-ready-reads.Asked, tick-ready-reads.Learnt, test-radar-reads.Asked, test-radar-reads.Learnt, read-input-reads.Asked, read-input-reads.Learnt, check-reads.Asked, check-reads.Learnt, next-reads.Asked, next-reads.Learnt, refusing-reads.Asked, refusing-reads.Learnt) reads.Pre reads.Post Inv-loop μ-loop)
+    → (c .if5 .code ≡ accelerationCode (accelerationOf (c .before .if1 .car))) × (c .if5 .answer ≡ acceptedAnswer (c .before .if1 .car))
+shown c =
+    let g = c .before .before .before .before .before .loop .inv in
+    ⊎-elim
+    (λ w. (w .3 ∙ w .1 .ensures, w .4 ∙ w .2 .ensures))
+    (λ w. let s = turned (c .before) .still (w .0 .left) in (w .1 ∙ g .is-code ∙ ap accelerationCode (sym (s .0)), w .2 ∙ g .is-answer ∙ sym (s .1)))
+    (c .if5 .came)
+
+-- the refused words
+counted : (c : lts.Joined6 (acceleration-code-reads.Asked, acceleration-code-reads.Learnt, answer-reads.Asked, answer-reads.Learnt, is-tick-reads.Asked, is-tick-reads.Learnt, test-due-reads.Asked, test-due-reads.Learnt, tick-refusal-reads.Asked, tick-refusal-reads.Learnt, moved-reads.Asked, moved-reads.Learnt, tick-reads.Asked, tick-reads.Learnt, tick-ready-reads.Asked, tick-ready-reads.Learnt, test-radar-reads.Asked, test-radar-reads.Learnt, read-input-reads.Asked, read-input-reads.Learnt, check-reads.Asked, check-reads.Learnt, next-reads.Asked, next-reads.Learnt, refusing-reads.Asked, refusing-reads.Learnt) reads.Pre reads.Post Inv-loop μ-loop)
+    → c .if6 .refused ≡ c .before .before .before .before .before .before .loop .refused + refuses (stepOf (c .before .before .before .before .before .before .loop .car) (getD (c .before .before .before .before .before .before .before .before .before .before .before .before .args .words .now) (c .before .before .before .before .before .before .loop .i) 0))
+counted c =
+    let t = turned (c .before .before) in
+    let h = c .before .before .before .before .before .loop-test .taken in
+    let g = c .before .before .before .before .before .before .loop .inv in
+    ⊎-elim
+    (λ w. w .1 ∙ more _ _ _ _ _ _ _ _ _ _ _ h g _ _ _ t (w .0 .taken))
+    (λ w. w .1 ∙ no-more _ _ _ _ _ _ _ _ _ _ _ h g _ _ _ t (w .0 .left))
+    (c .if6 .came)
+
+-- the speeds
+spoken : (c : lts.Joined7 (acceleration-code-reads.Asked, acceleration-code-reads.Learnt, answer-reads.Asked, answer-reads.Learnt, is-tick-reads.Asked, is-tick-reads.Learnt, test-due-reads.Asked, test-due-reads.Learnt, tick-refusal-reads.Asked, tick-refusal-reads.Learnt, moved-reads.Asked, moved-reads.Learnt, tick-reads.Asked, tick-reads.Learnt, tick-ready-reads.Asked, tick-ready-reads.Learnt, test-radar-reads.Asked, test-radar-reads.Learnt, read-input-reads.Asked, read-input-reads.Learnt, check-reads.Asked, check-reads.Learnt, next-reads.Asked, next-reads.Learnt, refusing-reads.Asked, refusing-reads.Learnt) reads.Pre reads.Post Inv-loop μ-loop)
+    → (length (c .if7 .speeds) ≡ length (c .before .before .before .before .before .before .before .before .loop .speeds))
+    × (take (c .before .before .before .before .before .before .before .before .loop .i + 1) (c .if7 .speeds) ++ overOf speedOf (stepOf (c .before .before .before .before .before .before .before .before .loop .car) (getD (c .before .before .before .before .before .before .before .before .before .before .before .before .before .before .args .words .now) (c .before .before .before .before .before .before .before .before .loop .i) 0) .car) (drop (c .before .before .before .before .before .before .before .before .loop .i + 1) (c .before .before .before .before .before .before .before .before .before .before .before .before .before .before .args .words .now)) (drop (c .before .before .before .before .before .before .before .before .loop .i + 1) (c .if7 .speeds))
+    ≡ overOf speedOf (c .before .before .before .before .before .before .before .before .before .before .before .before .before .before .args .self) (c .before .before .before .before .before .before .before .before .before .before .before .before .before .before .args .words .now) (c .before .before .before .before .before .before .before .before .before .before .before .before .before .before .args .speeds .now))
+spoken c =
+    let h = c .before .before .before .before .before .before .before .loop-test .taken in
+    let g = c .before .before .before .before .before .before .before .before .loop .inv in
+    ⊎-elim
+    (λ w. rw (w .1) (simp length-set, written speedOf _ _ _ _ h _ (g .spd) _ (w .0 .taken) (ap (λ (x : Car). x .speed) (turned (c .before .before .before .before) .is-car))))
+    (λ w. rw (w .1) (refl, passed-by speedOf _ _ _ _ h _ (g .spd) (w .0 .left)))
+    (c .if7 .came)
+
 acceleration-code-requires : tie.Need-acceleration-code-requires Inv-loop μ-loop
-acceleration-code-requires c κs = good-ranges _ (c .before .before .pre .0)
+acceleration-code-requires c κs = good _ (c .before .before .before .pre .0)
 
 answer-requires : tie.Need-answer-requires Inv-loop μ-loop
-answer-requires c κs = (good-ranges _ (c .before .before .before .pre .0), c .acceleration-code .ensures)
+answer-requires c κs = (good-ranges _ (c .before .before .before .before .pre .0), c .acceleration-code .ensures)
 
 loop-holds : tie.Need-loop-holds Inv-loop μ-loop
-loop-holds c = (begins answerOf _ _ _ (c .before .before .before .before .pre .0) (c .before .before .before .before .pre .1), c .answer .ensures)
+loop-holds c = begins _ _ _ _ _ _ (c .before .before .before .before .before .pre .0) (c .before .before .before .before .before .pre .1) (c .before .acceleration-code .ensures) (c .answer .ensures)
 
-code-in-requires : tie.Need-code-in-requires Inv-loop μ-loop
-code-in-requires c κs = search needs
+mul-word : tie.Need-mul-word Inv-loop μ-loop
+mul-word c = search needs
 
-mul-step : tie.Need-mul-step Inv-loop μ-loop
-mul-step c = search needs
+shared-slice-read-word : tie.Need-shared-slice-read-word Inv-loop μ-loop
+shared-slice-read-word c = search needs
 
-shared-slice-read-step : tie.Need-shared-slice-read-step Inv-loop μ-loop
-shared-slice-read-step c = search needs
+is-tick-requires : tie.Need-is-tick-requires Inv-loop μ-loop
+is-tick-requires c κs = search needs
 
-step-requires : tie.Need-step-requires Inv-loop μ-loop
-step-requires c κs =
-    let inv = c .before .before .before .loop .inv in
-    let r = good-ranges _ (inv .0 .ok) in
-    (r, c .before .code-in .ensures ∙ ap (λ (n : ℕ). n / 128 % 128) (inv .1) ∙ answer-code _ r)
+test-due-requires : tie.Need-test-due-requires Inv-loop μ-loop
+test-due-requires c κs = good-ranges _ (c .before .before .before .before .loop .inv .ok)
+
+tick-refusal-requires : tie.Need-tick-refusal-requires Inv-loop μ-loop
+tick-refusal-requires c κs = search needs
+
+moved-requires : tie.Need-moved-requires Inv-loop μ-loop
+moved-requires c κs = let g = c .before .before .before .before .before .before .before .loop .inv in (good-ranges _ (g .ok), g .is-code)
+
+tick-requires : tie.Need-tick-requires Inv-loop μ-loop
+tick-requires c κs = good-ranges _ (c .before .before .before .before .before .before .before .before .before .before .before .before .loop .inv .ok)
+
+tick-ready-requires : tie.Need-tick-ready-requires Inv-loop μ-loop
+tick-ready-requires c κs = search needs
+
+test-radar-requires : tie.Need-test-radar-requires Inv-loop μ-loop
+test-radar-requires c κs = search needs
+
+read-input-requires : tie.Need-read-input-requires Inv-loop μ-loop
+read-input-requires c κs = search needs
+
+enum-known-input : tie.Need-enum-known-input Inv-loop μ-loop
+enum-known-input c = search needs
+
+check-requires : tie.Need-check-requires Inv-loop μ-loop
+check-requires c κs = search needs
+
+next-requires : tie.Need-next-requires Inv-loop μ-loop
+next-requires c κs = search needs
+
+enum-known-n : tie.Need-enum-known-n Inv-loop μ-loop
+enum-known-n c = search needs
 
 acceleration-code-requires-2 : tie.Need-acceleration-code-requires-2 Inv-loop μ-loop
-acceleration-code-requires-2 c κs = rw (c .before .before .before .step .ensures) (good-ranges _ (step-good _ _ (c .before .before .before .before .before .before .before .loop .inv .0 .ok)))
+acceleration-code-requires-2 c κs = good _ (rw (turned (c .before) .is-car) (step-good _ _ (c .before .before .before .before .before .loop .inv .ok)))
 
 answer-requires-2 : tie.Need-answer-requires-2 Inv-loop μ-loop
-answer-requires-2 c κs = (rw (c .before .before .before .before .step .ensures) (good-ranges _ (step-good _ _ (c .before .before .before .before .before .before .before .before .loop .inv .0 .ok))), c .acceleration-code2 .ensures)
-
-add-accepted : tie.Need-add-accepted Inv-loop μ-loop
-add-accepted c = record { fits = omega (arith, mul-step (c .before .before .before .before .before .before .before) .fits, c .before .before .before .before .before .before .before .before .before .loop .inv .0 .sum) }
+answer-requires-2 c κs = (good-ranges _ (rw (turned (c .before .before) .is-car) (step-good _ _ (c .before .before .before .before .before .before .loop .inv .ok))), c .acceleration-code2 .ensures)
 
 add-refused : tie.Need-add-refused Inv-loop μ-loop
-add-refused c = record { fits = omega (arith, mul-step (c .before .before .before .before) .fits, c .before .before .before .before .before .before .loop .inv .0 .sum) }
+add-refused c = record { fits = omega (arith, mul-word (c .before .before .before .before .before) .fits, c .before .before .before .before .before .before .loop .inv .some) }
 
-add-answers : tie.Need-add-answers Inv-loop μ-loop
-add-answers c = record { fits = met-fits (met (c .before .before)) _ _ (c .before .before .before .before .step .ensures) (c .before .before .before .before .before .before .before .before .loop .inv .0 .ok) }
+refusing-requires : tie.Need-refusing-requires Inv-loop μ-loop
+refusing-requires c κs = search needs
 
 mul-answers : tie.Need-mul-answers Inv-loop μ-loop
-mul-answers c = mul-step (c .before .before .before .before .before .before)
+mul-answers c = mul-word (c .before .before .before .before .before .before)
 
 slice-write-answers : tie.Need-slice-write-answers Inv-loop μ-loop
 slice-write-answers c = search needs
 
+mul-speeds : tie.Need-mul-speeds Inv-loop μ-loop
+mul-speeds c = mul-word (c .before .before .before .before .before .before .before)
+
+slice-write-speeds : tie.Need-slice-write-speeds Inv-loop μ-loop
+slice-write-speeds c = search needs
+
 add-i : tie.Need-add-i Inv-loop μ-loop
-add-i c = record { fits = omega (arith, mul-step (c .before .before .before .before .before .before) .fits) }
+add-i c = record { fits = omega (arith, mul-word (c .before .before .before .before .before .before .before) .fits) }
 
 loop-less : tie.Need-loop-less Inv-loop μ-loop
 loop-less c = search needs
 
 loop-again : tie.Need-loop-again Inv-loop μ-loop
 loop-again c =
-    let m = met (c .before .before) in
-    (again-met answerOf _ _ _ _ _ _ _ _ (c .before .before .before .before .before .before .before .loop-test .taken) (c .before .before .before .before .before .before .before .before .loop .inv .0) _ _ _ _ _ _ (c .before .before .before .before .step .ensures) (met-answer m) m, met-next m)
+    let h = c .before .before .before .before .before .before .before .loop-test .taken in
+    let g = c .before .before .before .before .before .before .before .before .loop .inv in
+    let t = turned (c .before .before .before .before) in
+    let v = shown (c .before .before .before) in
+    let p = spoken c in
+    let x = answered _ _ _ _ _ _ _ _ _ _ _ h g _ _ _ _ _ t (v .1) (c .before .refusing .ensures) in
+    again _ _ _ _ _ _ _ _ _ _ _ h g _ _ _ _ _ _ _ _ t (counted (c .before .before)) (v .0) (v .1) (simp length-set) (p .0)
+    (written answerOf _ _ _ _ h _ (g .ans) _ (omega (arith, g .room, g .same)) x) (p .1)
+
+sub-t33 : tie.Need-sub-t33 Inv-loop μ-loop
+sub-t33 c = omega (arith, c .before .loop .inv .some, c .before .loop .inv .at)
 
 same-length : tie.Need-same-length Inv-loop μ-loop
-same-length c = search (needs, c .before .loop .inv .0 .same)
+same-length c = search (needs, c .before .loop .inv .same)
+
+same-length-2 : tie.Need-same-length-2 Inv-loop μ-loop
+same-length-2 c = search (needs, c .before .loop .inv .same-speeds)
 
 returns : tie.Need-returns Inv-loop μ-loop
-returns c = ends answerOf _ _ _ _ _ _ _ _ (c .loop-test .left) (c .before .loop .inv .0)
+returns c = ends _ _ _ _ _ _ _ _ _ _ _ (c .loop-test .left) (c .before .loop .inv)
 
 pub teach-spec : {M : Type 1} → statement M
 teach-spec =
@@ -105,19 +208,32 @@ teach-spec =
     acceleration-code-requires
     answer-requires
     loop-holds
-    code-in-requires
-    mul-step
-    shared-slice-read-step
-    step-requires
+    mul-word
+    shared-slice-read-word
+    is-tick-requires
+    test-due-requires
+    tick-refusal-requires
+    moved-requires
+    tick-requires
+    tick-ready-requires
+    test-radar-requires
+    read-input-requires
+    enum-known-input
+    check-requires
+    next-requires
+    enum-known-n
     acceleration-code-requires-2
     answer-requires-2
-    add-accepted
     add-refused
-    add-answers
+    refusing-requires
     mul-answers
     slice-write-answers
+    mul-speeds
+    slice-write-speeds
     add-i
     loop-less
     loop-again
+    sub-t33
     same-length
+    same-length-2
     returns)

@@ -9,4 +9,4 @@ turn-key-spec =
     tie.close
     (tie.spec
     (λ c κs. search needs)
-    (λ c. cc))
+    (λ c. rw (c .before .before .before .before .key-radar .ensures)))

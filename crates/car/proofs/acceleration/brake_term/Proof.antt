@@ -1,4 +1,4 @@
-use Rattle.car.specs.Acceleration.{brakeTerm}
+use Rattle.motion.specs.Acceleration.{brakeTerm}
 use borrow.Author.Needs.{needs}
 use Rattle.car.proofs.acceleration.brake_term.Statement.{statement}
 use Rattle.car.proofs.acceleration.brake_term.Tie as tie

@@ -1,8 +1,8 @@
 use mathlib.Core.Path.{ap, _∙_}
 use native.Mathlib.Omega.{arith}
 use Rattle.kit.specs.Pick.{picks}
-use Rattle.car.specs.Acceleration.{braked, accelerationCode}
-use Rattle.car.specs.AccelerationLaws.{brakeTerm-le}
+use Rattle.motion.specs.Acceleration.{braked, accelerationCode}
+use Rattle.motion.specs.AccelerationLaws.{brakeTerm-le}
 use borrow.Author.Needs.{needs}
 use Rattle.car.proofs.acceleration.braked.Statement.{statement}
 use Rattle.car.proofs.acceleration.braked.Tie as tie

@@ -1,4 +1,4 @@
-use Rattle.car.specs.Acceleration.{gasTerm}
+use Rattle.motion.specs.Acceleration.{gasTerm}
 use borrow.Author.Needs.{needs}
 use Rattle.car.proofs.acceleration.gas_term.Statement.{statement}
 use Rattle.car.proofs.acceleration.gas_term.Tie as tie

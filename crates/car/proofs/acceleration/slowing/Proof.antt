@@ -1,5 +1,5 @@
 use mathlib.Core.Path.{sym}
-use Rattle.car.specs.CodeLaws.{code-slowing}
+use Rattle.motion.specs.AccelerationShapeLaws.{code-slowing}
 use borrow.Author.Needs.{needs}
 use Rattle.car.proofs.acceleration.slowing.Statement.{statement}
 use Rattle.car.proofs.acceleration.slowing.Tie as tie

@@ -1,5 +1,5 @@
 use mathlib.Core.Path.{sym}
-use Rattle.car.specs.CodeLaws.{code-speeding}
+use Rattle.motion.specs.AccelerationShapeLaws.{code-speeding}
 use borrow.Author.Needs.{needs}
 use Rattle.car.proofs.acceleration.speeding.Statement.{statement}
 use Rattle.car.proofs.acceleration.speeding.Tie as tie

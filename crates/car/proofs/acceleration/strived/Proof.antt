@@ -1,4 +1,4 @@
-use Rattle.car.specs.Code.{strived}
+use Rattle.motion.specs.AccelerationShape.{strived}
 use borrow.Author.Needs.{needs}
 use Rattle.car.proofs.acceleration.strived.Statement.{statement}
 use Rattle.car.proofs.acceleration.strived.Tie as tie

@@ -1,9 +1,9 @@
 use mathlib.Core.Path.{ap, _∙_}
 use Prim.Native.Nat.{min}
 use native.Mathlib.Omega.{arith}
-use Rattle.car.specs.Acceleration.{speeding, slowing, accelerationCode}
-use Rattle.car.specs.Code.{strived}
-use Rattle.car.specs.CodeLaws.{towards-at, towards-below, towards-above}
+use Rattle.motion.specs.Acceleration.{speeding, slowing, accelerationCode}
+use Rattle.motion.specs.AccelerationShape.{strived}
+use Rattle.motion.specs.AccelerationShapeLaws.{towards-at, towards-below, towards-above}
 use borrow.Author.Needs.{needs}
 use Rattle.car.proofs.acceleration.towards.Statement.{statement}
 use Rattle.car.proofs.acceleration.towards.Tie as tie

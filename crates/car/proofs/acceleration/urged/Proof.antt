@@ -1,5 +1,6 @@
-use Rattle.car.specs.Code.{urgedCode}
+use native.Mathlib.Omega.{arith}
 use Rattle.kit.specs.Pick.{picks}
+use Rattle.motion.specs.AccelerationShape.{urgedCode}
 use borrow.Author.Needs.{needs}
 use Rattle.car.proofs.acceleration.urged.Statement.{statement}
 use Rattle.car.proofs.acceleration.urged.Tie as tie
@@ -13,5 +14,6 @@ urged-spec =
     (λ c κs. search needs)
     (λ c κs. search needs)
     (λ c κs. search needs)
-    (λ c. search needs)
-    (λ c. search (picks, c .least .ensures, c .before .most .ensures, c .before .before .less .ensures)))
+    (λ c κs. search needs)
+    (λ c. omega (arith, c .most .ensures, c .before .less .ensures, c .before .before .least .ensures))
+    (λ c. search (picks, c .most .ensures, c .before .less .ensures, c .before .before .least .ensures, c .before .before .before .gas-term .ensures)))

@@ -9,4 +9,4 @@ tested-spec =
     tie.close
     (tie.spec
     (λ c κs. search needs)
-    (λ c. cc))
+    (λ c. rw (c .range-after .ensures)))

@@ -1,0 +1,2 @@
+pub mod AnswerWord
+pub mod AnswerWordLaws

@@ -1,0 +1,6 @@
+pub mod Neighbours
+pub mod NeighbourLaws
+pub mod History
+pub mod HistoryLaws
+pub mod BandLaws
+pub mod WarningLaws
