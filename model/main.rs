@@ -10,8 +10,9 @@ mod tuned;
 use std::process::ExitCode;
 use std::time::Instant;
 
-const USAGE: &str = "usage: compare [SEED] | replay KIND SEED | speed
-KIND is one of fresh, walk, lesson, damaged, cars, alike, tuned; a SEED is decimal or 0x hexadecimal";
+const USAGE: &str = "usage: compare [SEED] | replay KIND SEED | speed | once WORKLOAD WAY
+KIND is one of fresh, walk, lesson, damaged, cars, alike, tuned; a SEED is decimal or 0x hexadecimal
+WORKLOAD is one of mixed, accepted, ticks, random; WAY is library or tuned";
 
 fn main() -> ExitCode {
     let start = Instant::now();
@@ -27,6 +28,7 @@ fn main() -> ExitCode {
             speed::run(start);
             Some(true)
         }
+        ["once", workload, way] => speed::run_once(workload, way).map(|()| true),
         _ => None,
     };
     match agrees {

@@ -43,6 +43,30 @@ pub fn run(start: Instant) {
     print_pairs("figures", &workloads, &[("library", library_figures), ("model", model_figures)]);
 }
 
+/// One lesson of a workload by one way, for a tool that counts instructions while `counted` runs.
+pub fn run_once(workload: &str, way: &str) -> Option<()> {
+    let words = match workload {
+        "mixed" => mixed_walk,
+        "accepted" => accepted_walk,
+        "ticks" => ticks_only,
+        "random" => random_words,
+        _ => return None,
+    };
+    let way: Way = match way {
+        "library" => library_lesson,
+        "tuned" => tuned_lesson,
+        _ => return None,
+    };
+    let (car, words) = words(&mut Random::new(7));
+    println!("{:08X}", counted(way, &car.write(), &words, &mut [0; LESSON_WORDS]));
+    Some(())
+}
+
+#[inline(never)]
+fn counted(way: Way, record: &[u32; 12], words: &[u32], answers: &mut [u32]) -> u32 {
+    black_box(way(black_box(record), black_box(words), answers))
+}
+
 /// From the start of main to the first answer word of a lesson; the loading of the program is not in it.
 fn print_first_answer(start: Instant) {
     let mut record = [0; 12];

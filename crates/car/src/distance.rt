@@ -66,23 +66,28 @@ impl Car {
         self.within(self.secure_distance())
     }
 
-    pub(crate) fn visual(self) -> bool
-        requires { ⌜ Ranges self ⌝ }
-        ensures { λ r. ⌜ r ≡ visual self ⌝ }
+    // A car ahead, nearer than the way in that many tenths of a second.
+    fn nearer(self, tenths: u32) -> bool
+        requires { ⌜ Ranges self × (tenths ≤ 30) ⌝ }
+        ensures { λ r. ⌜ r ≡ within self (metres tenths (self .speed)) ⌝ }
     {
         if !self.ahead() {
             return false;
         }
-        self.within(metres(15, self.speed))
+        self.within(metres(tenths, self.speed))
+    }
+
+    pub(crate) fn visual(self) -> bool
+        requires { ⌜ Ranges self ⌝ }
+        ensures { λ r. ⌜ r ≡ visual self ⌝ }
+    {
+        self.nearer(15)
     }
 
     pub(crate) fn acoustic(self) -> bool
         requires { ⌜ Ranges self ⌝ }
         ensures { λ r. ⌜ r ≡ acoustic self ⌝ }
     {
-        if !self.ahead() {
-            return false;
-        }
-        self.within(metres(8, self.speed))
+        self.nearer(8)
     }
 }

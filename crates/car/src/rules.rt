@@ -1,6 +1,6 @@
 // The rules of the nine events beside the tick (document 01, "Rules of each event"): one method for each, the car in whole and back whole.
 ghost use mathlib.Core.Path.{_≡_};
-ghost use Rattle.car.specs.Rules.{keyRadar, keyTurned, leverDesired, whileHeld, upDownMoved, engages, startDesired, engaged, forward, backward, foreBackMoved, brakePressed, gasPressed, buttonPressed, gapChosen, signActs, signAfter, signPassed, readingTaken};
+ghost use Rattle.car.specs.Rules.{keyRadar, keyTurned, leverDesired, whileHeld, upDownMoved, engages, startDesired, engaged, forward, cruiseOff, backward, foreBackMoved, brakePressed, gasPressed, buttonPressed, gapChosen, signActs, signAfter, signPassed, readingTaken};
 use crate::Car;
 use crate::Cruise;
 use crate::Limiter;
@@ -127,15 +127,23 @@ impl Car {
         self
     }
 
-    fn backward(mut self) -> Car
-        ensures { λ r. ⌜ r ≡ backward self ⌝ }
+    // T and B are 0 with cruise off.
+    fn cruise_off(mut self) -> Car
+        ensures { λ r. ⌜ r ≡ cruiseOff self ⌝ }
     {
         self.levers.time = 0;
         self.levers.base = 0;
         self.cruise.on = false;
-        self.limiter.button = false;
-        self.limiter.on = false;
         self
+    }
+
+    fn backward(self) -> Car
+        ensures { λ r. ⌜ r ≡ backward self ⌝ }
+    {
+        let mut car = self.cruise_off();
+        car.limiter.button = false;
+        car.limiter.on = false;
+        car
     }
 
     pub(crate) fn move_fore_back(mut self, position: u32) -> Car
@@ -154,9 +162,7 @@ impl Car {
     {
         self.pedals.brake = brake;
         if brake > 0 {
-            self.cruise.on = false;
-            self.levers.time = 0;
-            self.levers.base = 0;
+            return self.cruise_off();
         }
         self
     }

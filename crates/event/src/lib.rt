@@ -2,6 +2,7 @@
 ghost use mathlib.Core.Path.{_≡_};
 ghost use mathlib.Core.Bool.{true};
 ghost use lib.Dec.{eqb};
+ghost use Prim.Native.Nat.{_≤_};
 ghost use Rattle.event.specs.Words.{kindOf, bodyOf, inputAnswer, readingAnswer, writingAnswer, permittedGap, inputRange, inRange, unnamedOf, judged, keyWord, radarWord, keyOnOf, inputsOf, inputOf, readyOf, tickWord, readOf, bitOf, inputWord, wordOf, inputWriting, writeOf};
 use number::bound;
 
@@ -234,7 +235,7 @@ fn input_word(input: Input) -> u32
 
 // A flag as a bit.
 pub fn bit(flag: bool) -> u32
-    ensures { λ r. ⌜ r ≡ bitOf flag ⌝ }
+    ensures { λ r. ⌜ (r ≡ bitOf flag) × (r ≤ 1) ⌝ }
 {
     if flag { 1 } else { 0 }
 }

@@ -1,7 +1,6 @@
 // The layout of the twelve words. Each starts with the mark 11 and its place: hexadecimal B0 to BB.
 ghost use mathlib.Core.Path.{_≡_};
 ghost use Prim.Native.Nat.{_≤_};
-ghost use Rattle.event.specs.Words.{bitOf};
 ghost use Rattle.record.specs.Layout.{packed, unpacked, wordOf};
 ghost use Rattle.record.specs.LayoutLaws.{Fits};
 use car::Car;
@@ -11,12 +10,7 @@ use car::Limiter;
 use car::Pedals;
 use car::RangeRadar;
 use car::Settings;
-
-fn bit(flag: bool) -> u32
-    ensures { λ r. ⌜ (r ≡ bitOf flag) × (r ≤ 1) ⌝ }
-{
-    if flag { 1 } else { 0 }
-}
+use event::bit;
 
 // Word 0: mode, signs, key, L, M, H, S, C, P.
 fn first_word(car: Car) -> u32

@@ -47,7 +47,7 @@ fn loaded(car: Car, words: [u32; 13]) {
     tester::number(0);
     tester::numbers(&tester::fields_of(car));
     let same = array_same(car, words) & buffer_same(car, words);
-    tester::last(tester::bit(same));
+    tester::last(event::bit(same));
 }
 
 fn line(count: u32) {

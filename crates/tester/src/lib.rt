@@ -3,7 +3,6 @@
 ghost use Prim.Native.Nat.{_≤_};
 ghost use mathlib.Core.Path.{_≡_};
 ghost use lib.ListN.{length};
-ghost use Rattle.event.specs.Words.{bitOf};
 ghost use Rattle.tester.specs.Fields.{fieldsOf, carOf};
 use car::Car;
 use car::Cruise;
@@ -12,6 +11,7 @@ use car::Limiter;
 use car::Pedals;
 use car::RangeRadar;
 use car::Settings;
+use event::bit;
 use libc::STDIN_FILENO;
 use libc::STDOUT_FILENO;
 
@@ -68,12 +68,6 @@ pub fn number(n: u32) {
 pub fn last(n: u32) {
     io::print_decimal(STDOUT_FILENO, n as u64);
     end_line();
-}
-
-pub fn bit(flag: bool) -> u32
-    ensures { λ r. ⌜ r ≡ bitOf flag ⌝ }
-{
-    if flag { 1 } else { 0 }
 }
 
 pub fn flag(b: bool) {

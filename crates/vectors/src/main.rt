@@ -37,8 +37,16 @@ fn walks() {
     list(b"clock-end.bin");
 }
 
+// Files longer than any page of the program, of whole pages, and cut after one.
+fn pages() {
+    list(b"pages-cycle.bin");
+    list(b"pages-whole.bin");
+    list(b"pages-cut.bin");
+}
+
 fn main() {
     odd_files();
     words();
     walks();
+    pages();
 }

@@ -14,5 +14,5 @@ compare-spec =
     (λ c κs. search needs)
     (λ c κs. search needs)
     (λ c. search needs)
-    (λ c. rw (c .before .before .before .b .given .1) (c .bit .ensures ∙ ap bitOf (c .before .alike .ensures)))
+    (λ c. rw (c .before .before .before .b .given .1) (c .bit .ensures .0 ∙ ap bitOf (c .before .alike .ensures)))
     (λ c. rw (c .enum-told .given .1)))

@@ -14,4 +14,4 @@ cruise-figures-spec =
     (λ c κs. rw (c .figures .ensures) (dial-small _))
     (λ c κs. search needs)
     (λ c κs. search needs)
-    (λ c. let f = c .before .before .before .figures .ensures in let s = signed-held (c .before .before .before .figures .result .acceleration) (rw f (dial-small _)) in let t = c .before .before .signed .ensures in let v = c .before .bit .ensures in let u = c .bit2 .ensures in cc))
+    (λ c. let f = c .before .before .before .figures .ensures in let s = signed-held (c .before .before .before .figures .result .acceleration) (rw f (dial-small _)) in let t = c .before .before .signed .ensures in let v = c .before .bit .ensures .0 in let u = c .bit2 .ensures .0 in cc))

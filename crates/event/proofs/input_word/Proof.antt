@@ -12,8 +12,8 @@ input-word-spec =
     tie.close
     (tie.spec
     (λ c. search needs) (λ c. omega (arith, rw (c .before .input .given .1) at (input-fits _ (c .before .before .before .pre)))) (λ c κs. search needs)
-    (λ c. omega (arith, c .bit .ensures, rw (c .before .before .input .given .1) at (input-fits _ (c .before .before .before .before .pre))))
-    (λ c. omega (arith, c .bit .ensures, rw (c .before .before .input .given .1) at (input-fits _ (c .before .before .before .before .pre))))
+    (λ c. omega (arith, c .bit .ensures .0, rw (c .before .before .input .given .1) at (input-fits _ (c .before .before .before .before .pre))))
+    (λ c. omega (arith, c .bit .ensures .0, rw (c .before .before .input .given .1) at (input-fits _ (c .before .before .before .before .pre))))
     (λ c. search needs) (λ c. search needs) (λ c. omega (arith, rw (c .before .input2 .given .1) at (input-fits _ (c .before .before .before .pre))))
     (λ c. search needs) (λ c. search needs) (λ c. omega (arith, rw (c .before .input3 .given .1) at (input-fits _ (c .before .before .before .pre))))
     (λ c. search needs) (λ c. search needs) (λ c. omega (arith, rw (c .before .input4 .given .1) at (input-fits _ (c .before .before .before .pre))))
@@ -24,7 +24,7 @@ input-word-spec =
     (λ c. search needs) (λ c. search needs) (λ c. omega (arith, rw (c .before .input9 .given .1) at (input-fits _ (c .before .before .before .pre))))
     (λ c. omega (arith, rw (c .before .input9 .given .1) at (input-fits _ (c .before .before .before .pre))))
     (λ c. omega (arith, rw (c .before .input9 .given .1) at (input-fits _ (c .before .before .before .pre))))
-    (λ c. rw (c .before .before .input .given .1, c .bit .ensures))
+    (λ c. rw (c .before .before .input .given .1, c .bit .ensures .0))
     (λ c. rw (c .before .input2 .given .1))
     (λ c. rw (c .before .input3 .given .1))
     (λ c. rw (c .before .input4 .given .1))

@@ -16,6 +16,6 @@ write-spec =
     (λ c. search needs)
     (λ c. search needs)
     (λ c κs. search needs)
-    (λ c. omega (arith, c .bit .ensures, bit-le (c .before .before .event2 .given .0 .0)))
+    (λ c. omega (arith, c .bit .ensures .0, bit-le (c .before .before .event2 .given .0 .0)))
     (λ c. rw (c .before .before .event .given .1) (c .write-input .ensures))
-    (λ c. rw (c .before .before .event2 .given .1, c .bit .ensures)))
+    (λ c. rw (c .before .before .event2 .given .1, c .bit .ensures .0)))

@@ -11,4 +11,4 @@ fields-of-spec =
     (λ c κs. search needs)
     (λ c κs. search needs)
     (λ c κs. search needs)
-    (λ c. rw (c .bit5 .ensures, c .before .bit4 .ensures, c .before .before .bit3 .ensures, c .before .before .before .bit2 .ensures, c .before .before .before .before .bit .ensures)))
+    (λ c. rw (c .bit5 .ensures .0, c .before .bit4 .ensures .0, c .before .before .bit3 .ensures .0, c .before .before .before .bit2 .ensures .0, c .before .before .before .before .bit .ensures .0)))

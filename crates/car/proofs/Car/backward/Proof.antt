@@ -1,6 +1,6 @@
-use Rattle.car.specs.Car.{withCruise, withLevers, withLimiter}
+use Rattle.car.specs.Car.{withLimiter, withCruise, withLevers}
 use Rattle.car.specs.Rules.{backward, cruiseOff}
-use Rattle.kit.specs.Pick.{picks}
+use borrow.Author.Needs.{needs}
 use Rattle.car.proofs.Car.backward.Statement.{statement}
 use Rattle.car.proofs.Car.backward.Tie as tie
 
@@ -9,4 +9,5 @@ unfolding backward cruiseOff withLimiter withCruise withLevers
 backward-spec =
     tie.close
     (tie.spec
-    (λ c. search picks))
+    (λ c κs. search needs)
+    (λ c. rw (c .before .before .cruise-off .ensures)))

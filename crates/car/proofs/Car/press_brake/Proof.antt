@@ -1,6 +1,7 @@
-use Rattle.car.specs.Car.{withCruise, withLevers, withPedals}
-use Rattle.car.specs.Rules.{brakePressed, cruiseOff}
 use Rattle.kit.specs.Pick.{picks}
+use Rattle.car.specs.Car.{withPedals, withCruise, withLevers}
+use Rattle.car.specs.Rules.{brakePressed, cruiseOff}
+use borrow.Author.Needs.{needs}
 use Rattle.car.proofs.Car.press_brake.Statement.{statement}
 use Rattle.car.proofs.Car.press_brake.Tie as tie
 
@@ -9,5 +10,6 @@ unfolding brakePressed cruiseOff withPedals withCruise withLevers
 press-brake-spec =
     tie.close
     (tie.spec
-    (λ c. search picks)
+    (λ c κs. search needs)
+    (λ c. search (picks, c .cruise-off .ensures))
     (λ c. search picks))
