@@ -120,6 +120,7 @@ signActs c =
     c .settings .signs && eqb (c .settings .mode) 2 && c .cruise .on && eqb (c .pedals .gas) 0
     && eqb (c .levers .updown) 0 && eqb (c .levers .foreback) 0
 
+-- D by a sign that acts; else D stays
 unfoldable pub signAfter : Car → ℕ → ℕ
 signAfter c s = pick (signActs c) (signDesired s (c .cruise .desired) (c .cruise .manual)) (c .cruise .desired)
 

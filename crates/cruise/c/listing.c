@@ -5,25 +5,34 @@
 
 #include "cruise.h"
 
-/* The settings word, then the events. */
-static const uint32_t words[] = {0xD0000001, 0x10000001, 0x10000006, 0x500000E1, 0xA0000001, 0x4000000A,
-                                 0x20000001, 0x30000001, 0x20000000, 0x30000001, 0xA0000001};
-
 int main(void)
 {
-    uint32_t record[12];
-    uint32_t refusal = cruise_fresh(words[0], record, 12);
+    const uint32_t settings = cruise_word_settings(CRUISE_MODE_NORMAL, 0);
+    const uint32_t words[] = {
+        cruise_word_key(CRUISE_KEY_IN, 0),
+        cruise_word_key(CRUISE_KEY_ON, 1),
+        cruise_word_gas(225),
+        cruise_word_tick(1),
+        cruise_word_brake(10),
+        cruise_word_up_down(CRUISE_UP5),
+        cruise_word_fore_back(CRUISE_FORWARD),
+        cruise_word_up_down(CRUISE_NEUTRAL),
+        cruise_word_fore_back(CRUISE_FORWARD),
+        cruise_word_tick(1),
+    };
+    uint32_t record[CRUISE_RECORD_WORDS];
+    uint32_t refusal = cruise_fresh(settings, record, CRUISE_RECORD_WORDS);
     if (refusal != CRUISE_ACCEPTED) {
         printf("refused %" PRIu32 "\n", refusal);
         return 1;
     }
     printf("n refusal speed desired accel visual acoustic\n");
-    for (size_t n = 1; n < sizeof words / sizeof words[0]; n++) {
+    for (size_t n = 0; n < sizeof words / sizeof words[0]; n++) {
         uint32_t speed, desired, visual, acoustic, distance;
         int32_t acceleration;
-        refusal = cruise_drive(record, 12, words[n]);
-        cruise_figures(record, 12, &speed, &desired, &acceleration, &visual, &acoustic, &distance);
-        printf("%zu %" PRIu32 " %" PRIu32 " %" PRIu32 " %" PRId32 " %" PRIu32 " %" PRIu32 "\n", n, refusal, speed, desired,
+        refusal = cruise_drive(record, CRUISE_RECORD_WORDS, words[n]);
+        cruise_figures(record, CRUISE_RECORD_WORDS, &speed, &desired, &acceleration, &visual, &acoustic, &distance);
+        printf("%zu %" PRIu32 " %" PRIu32 " %" PRIu32 " %" PRId32 " %" PRIu32 " %" PRIu32 "\n", n + 1, refusal, speed, desired,
                acceleration, visual, acoustic);
     }
     return 0;
