@@ -13,13 +13,13 @@ use Rattle.event.specs.declared.Input.{Input}
 use Rattle.event.specs.declared.Input.the-variants.{Key, UpDown, ForeBack, Brake, Gas, Button, Gap, Sign, Radar}
 use Rattle.event.specs.declared.Event.{Event}
 use Rattle.event.specs.declared.Event.the-variants as event
-use Rattle.event.specs.Words.{readOf}
+use Rattle.event.specs.Words.{inputKind, readOf}
 use Rattle.event.specs.WordLaws.{refused-number}
 use Rattle.checks.specs.CheckLaws.{keyOn-le, key-le, updown-le, foreback-le, pedal-le, button-le, radar-le, tick-le}
 use Rattle.answer.specs.AnswerWord.{Fits}
 use Rattle.motion.specs.SignedLaws.{code-le}
 use Rattle.car.specs.declared.Car.{Car}
-use Rattle.car.specs.Checks.{inputCheck, eventCheck}
+use Rattle.car.specs.Checks.{ownCheck, inputCheck, eventCheck}
 use Rattle.car.specs.Drive.{readingCheck, checkOf, stepOf}
 use Rattle.car.specs.declared.drive.Driven.{Driven}
 use Rattle.car.specs.Good.{goodOf}
@@ -32,7 +32,7 @@ use Rattle.car.specs.StepLaws.{step-refusal, step-good}
 
 -- the checks of an event give no number above 16
 input-le : (c : Car) (i : Input) → inputCheck c i ≤ 16
-unfolding inputCheck
+unfolding inputCheck ownCheck inputKind pick
 input-le c (Key x ready) = key-le _ _ x ready
 input-le c (UpDown x) = updown-le _ _ x
 input-le c (ForeBack x) = foreback-le _ _ x

@@ -13,13 +13,13 @@ use Rattle.event.specs.declared.Input.{Input}
 use Rattle.event.specs.declared.Input.the-variants.{Key, UpDown, ForeBack, Brake, Gas, Button, Gap, Sign, Radar}
 use Rattle.event.specs.declared.Event.{Event}
 use Rattle.event.specs.declared.Event.the-variants as event
-use Rattle.event.specs.Words.{inputRange, inRange, readOf}
+use Rattle.event.specs.Words.{inputKind, inputRange, inRange, readOf}
 use Rattle.event.specs.WordLaws.{read-in-range, refused-number}
 use Rattle.car.specs.declared.Car.{Car}
 use Rattle.car.specs.declared.drive.Driven.{Driven}
 use Rattle.car.specs.Car.{withLevers, withLimiter, withCruise}
 use Rattle.checks.specs.CheckLaws.{key-on, updown-passed, foreback-passed, pedal-passed, button-passed, radar-passed, tick-passed}
-use Rattle.car.specs.Checks.{inputCheck, eventCheck}
+use Rattle.car.specs.Checks.{ownCheck, inputCheck, eventCheck}
 use Rattle.car.specs.Drive.{inputNext, eventNext, readingCheck, checkOf, readingNext, nextOf, chosen, stepOf, driveOf}
 use Rattle.car.specs.Good.{goodOf}
 use Rattle.car.specs.GoodLaws.{good, good-test}
@@ -52,7 +52,7 @@ gas-good c x g h k b =
     pedal-good _ l (c .pedals .brake) x (g .ranges .brake) h (λ q. absurd (omega arith)) k (λ _. b) (λ e. ltb-false 90 x (still-on (ltb 90 x) _ e .0))
 
 input-good : (c : Car) (i : Input) → Good c → inputRange i ≡ true → inputCheck c i ≡ 0 → Good (inputNext c i)
-unfolding inputRange inputCheck inputNext buttonPressed
+unfolding inputRange inputCheck ownCheck inputKind pick inputNext buttonPressed
 input-good c (Key k ready) g i h = key-good c g k ready (leb-true k 2 i)
 input-good c (UpDown x) g i h = updown-good c g x (leb-true x 4 i) (updown-passed _ _ x h .1)
 input-good c (ForeBack y) g i h = moved-foreback-good c g y (leb-true y 2 i) (foreback-passed _ _ y h .1)

@@ -1,6 +1,6 @@
 // The checks 4 to 16 of a car (document 01, "From file, pupil, radar, clock and caller"): the first number that holds, or 0.
 ghost use mathlib.Core.Path.{_≡_};
-ghost use Rattle.car.specs.Checks.{inputCheck};
+ghost use Rattle.car.specs.Checks.{ownCheck, inputCheck};
 ghost use Rattle.car.specs.LessonShape.{tickRefusal};
 use crate::Car;
 use checks::button_check;
@@ -25,8 +25,9 @@ impl Car {
         tick_check(self.radar.ready, due, self.now, event::tick_ready(word))
     }
 
-    pub(crate) fn check(self, input: Input) -> u32
-        ensures { λ r. ⌜ r ≡ inputCheck self input ⌝ }
+    // What the input's own checks give.
+    fn own_check(self, input: Input) -> u32
+        ensures { λ r. ⌜ r ≡ ownCheck self input ⌝ }
     {
         match input {
             Input::Key { position, ready } => key_check(self.key, self.speed, position, ready),
@@ -36,29 +37,29 @@ impl Car {
             Input::ForeBack(position) => {
                 fore_back_check(self.levers.foreback, self.levers.updown, position)
             }
-            Input::Brake(brake) => key_on(
-                self.key,
-                pedal_check(self.pedals.brake, self.pedals.gas, brake),
+            Input::Brake(brake) => pedal_check(self.pedals.brake, self.pedals.gas, brake),
+            Input::Gas(gas) => pedal_check(self.pedals.gas, self.pedals.brake, gas),
+            Input::Button(limit) => button_check(
+                self.limiter.button,
+                self.levers.foreback,
+                self.pedals.gas,
+                self.speed,
+                limit,
             ),
-            Input::Gas(gas) => key_on(
-                self.key,
-                pedal_check(self.pedals.gas, self.pedals.brake, gas),
-            ),
-            Input::Button(limit) => key_on(
-                self.key,
-                button_check(
-                    self.limiter.button,
-                    self.levers.foreback,
-                    self.pedals.gas,
-                    self.speed,
-                    limit,
-                ),
-            ),
-            Input::Gap(_) => key_on(self.key, 0),
-            Input::Sign(_) => key_on(self.key, 0),
-            Input::Radar { range: _, speed: _ } => {
-                key_on(self.key, radar_check(self.radar.ready))
-            }
+            Input::Gap(_) => 0,
+            Input::Sign(_) => 0,
+            Input::Radar { range: _, speed: _ } => radar_check(self.radar.ready),
+        }
+    }
+
+    // The kinds 4 to 9 need the key on.
+    pub(crate) fn check(self, input: Input) -> u32
+        ensures { λ r. ⌜ r ≡ inputCheck self input ⌝ }
+    {
+        let own = self.own_check(input);
+        match event::kind(input) {
+            4..=9 => key_on(self.key, own),
+            _ => own,
         }
     }
 }

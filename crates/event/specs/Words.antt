@@ -37,6 +37,18 @@ kindOf w = w / 268435456
 abbrev pub bodyOf : ℕ → ℕ
 bodyOf w = w % 268435456
 
+-- the kind of an input
+unfoldable pub inputKind : Input → ℕ
+inputKind (Key position ready) = 1
+inputKind (UpDown x) = 2
+inputKind (ForeBack x) = 3
+inputKind (Brake x) = 4
+inputKind (Gas x) = 5
+inputKind (Button limit) = 6
+inputKind (Gap tenths) = 7
+inputKind (Sign s) = 8
+inputKind (Radar range speed) = 9
+
 -- "G chosen gap in tenths of a second: 20, 25 or 30"
 unfoldable pub permittedGap : ℕ → Bool
 permittedGap n = eqb n 20 || eqb n 25 || eqb n 30

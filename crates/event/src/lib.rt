@@ -3,7 +3,7 @@ ghost use mathlib.Core.Path.{_≡_};
 ghost use mathlib.Core.Bool.{true};
 ghost use lib.Dec.{eqb};
 ghost use Prim.Native.Nat.{_≤_};
-ghost use Rattle.event.specs.Words.{kindOf, bodyOf, inputAnswer, readingAnswer, writingAnswer, permittedGap, inputRange, inRange, unnamedOf, judged, keyWord, radarWord, keyOnOf, inputsOf, inputOf, readyOf, tickWord, readOf, bitOf, inputWord, wordOf, inputWriting, writeOf};
+ghost use Rattle.event.specs.Words.{kindOf, inputKind, bodyOf, inputAnswer, readingAnswer, writingAnswer, permittedGap, inputRange, inRange, unnamedOf, judged, keyWord, radarWord, inputsOf, inputOf, readyOf, tickWord, readOf, bitOf, inputWord, wordOf, inputWriting, writeOf};
 use number::bound;
 
 pub mod refusal;
@@ -112,22 +112,33 @@ fn read_kind(kind: u32, body: u32) -> InputReading
         1 => key_word(body),
         2 => judge(8, body, Input::UpDown(body)),
         3 => judge(4, body, Input::ForeBack(body)),
-        4..=9 => key_on_word(kind, body),
-        _ => InputReading::Refused(refusal::NO_SUCH_KIND),
-    }
-}
-
-// The kinds that need the key on, 4 to 9.
-fn key_on_word(kind: u32, body: u32) -> InputReading
-    ensures { λ r. ⌜ inputAnswer r ≡ keyOnOf kind body ⌝ }
-{
-    match kind {
         4 => judge(256, body, Input::Brake(body)),
         5 => judge(256, body, Input::Gas(body)),
         6 => judge(8192, body, Input::Button(body)),
         7 => judge(32, body, Input::Gap(body)),
         8 => judge(2048, body, Input::Sign(body)),
-        _ => radar_word(body),
+        9 => radar_word(body),
+        _ => InputReading::Refused(refusal::NO_SUCH_KIND),
+    }
+}
+
+// The kind number of an input.
+pub fn kind(input: Input) -> u32
+    ensures { λ r. ⌜ r ≡ inputKind input ⌝ }
+{
+    match input {
+        Input::Key {
+            position: _,
+            ready: _,
+        } => 1,
+        Input::UpDown(_) => 2,
+        Input::ForeBack(_) => 3,
+        Input::Brake(_) => 4,
+        Input::Gas(_) => 5,
+        Input::Button(_) => 6,
+        Input::Gap(_) => 7,
+        Input::Sign(_) => 8,
+        Input::Radar { range: _, speed: _ } => 9,
     }
 }
 

@@ -7,18 +7,19 @@ use lib.Dec.{eqb, leb, ltb}
 use native.Mathlib.Omega.{arith}
 use borrow.Author.Tests.{eqb-true, eq-eqb, le-leb}
 use Rattle.kit.specs.Bounds.{lessonLength, mostRise, mostFall}
-use Rattle.kit.specs.Pick.{pick-case, and-l, and-both, or-left, or-right}
+use Rattle.kit.specs.Pick.{pick, pick-case, and-l, and-both, or-left, or-right}
 use Rattle.event.specs.declared.Input.{Input}
 use Rattle.event.specs.declared.Input.the-variants.{Key, UpDown, ForeBack, Brake, Gas, Button, Gap, Sign, Radar}
 use Rattle.event.specs.declared.Event.{Event}
 use Rattle.event.specs.declared.Event.the-variants as event
+use Rattle.event.specs.Words.{inputKind}
 use Rattle.checks.specs.Checks.{upDownSkips, upDownCheck, foreBackSkips, foreBackCheck}
 use Rattle.checks.specs.CheckLaws.{key-passed, updown-passed, foreback-passed, tick-passed}
 use Rattle.car.specs.declared.Car.{Car}
 use Rattle.car.specs.declared.Levers.{Levers}
 use Rattle.car.specs.AccelerationLaws.{change-size}
 use Rattle.car.specs.Car.{withLevers, withPedals, withLimiter, withCruise, withRadar, withGap}
-use Rattle.car.specs.Checks.{inputCheck, eventCheck}
+use Rattle.car.specs.Checks.{ownCheck, inputCheck, eventCheck}
 use Rattle.car.specs.Drive.{inputNext, eventNext}
 use Rattle.car.specs.Good.{leverHeld}
 use Rattle.car.specs.KeepLaws.{tickSpeed-up, tickSpeed-down, whileHeld-held, neutral-free}
@@ -163,7 +164,7 @@ tick-neighbours c ready g h = record {
 }
 
 input-neighbours : (c : Car) (i : Input) → Good c → inputCheck c i ≡ 0 → Neighbours c (event.Input i) (inputNext c i)
-unfolding inputCheck inputNext keyTurned gasPressed buttonPressed signPassed readingTaken withPedals withLimiter withCruise withRadar withGap isTick isLever inputLever
+unfolding inputCheck ownCheck inputKind pick inputNext keyTurned gasPressed buttonPressed signPassed readingTaken withPedals withLimiter withCruise withRadar withGap isTick isLever inputLever
 input-neighbours c (Key k ready) g h =
     off-now c (event.Input (Key k ready)) _ refl refl refl (foreback-stays (c .levers .foreback)) (sym (key-passed _ _ k ready h)) refl refl
 input-neighbours c (UpDown x) g h = updown-neighbours c x h
