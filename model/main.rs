@@ -1,17 +1,22 @@
-//! Compares libcruise.a with a model of document 01, and measures both.
+//! Compares libcruise.a and the program `lesson` with a model of document 01, and measures the library and the model.
 
 mod compare;
 mod library;
+mod listing;
 mod paper;
+mod program;
 mod random;
+mod session;
 mod speed;
 mod tuned;
 
 use std::process::ExitCode;
 use std::time::Instant;
 
-const USAGE: &str = "usage: compare [SEED] | replay KIND SEED | speed | once WORKLOAD WAY
-KIND is one of fresh, walk, lesson, damaged, cars, alike, tuned; a SEED is decimal or 0x hexadecimal
+const USAGE: &str = "usage: [compare [SEED] | program [SEED] | replay KIND SEED | speed | once WORKLOAD WAY]
+compare tries the library, program the program `lesson`; with no argument both are tried
+KIND is one of fresh, walk, lesson, damaged, cars, alike, tuned of the library, short, failing, pages, file, pipe, live
+of the program; a SEED is decimal or 0x hexadecimal
 WORKLOAD is one of mixed, accepted, ticks, random; WAY is library or tuned";
 
 fn main() -> ExitCode {
@@ -19,11 +24,12 @@ fn main() -> ExitCode {
     let arguments: Vec<String> = std::env::args().skip(1).collect();
     let arguments: Vec<&str> = arguments.iter().map(String::as_str).collect();
     let agrees = match arguments[..] {
-        [] | ["compare"] => Some(compare::run(1)),
+        [] => Some(compare::run(1) && program::run(1)),
+        ["compare"] => Some(compare::run(1)),
         ["compare", seed] => number(seed).map(compare::run),
-        ["replay", kind, seed] => {
-            compare::Kind::named(kind).zip(number(seed)).map(|(kind, seed)| compare::replay(kind, seed))
-        }
+        ["program"] => Some(program::run(1)),
+        ["program", seed] => number(seed).map(program::run),
+        ["replay", kind, seed] => number(seed).and_then(|seed| replay(kind, seed)),
         ["speed"] => {
             speed::run(start);
             Some(true)
@@ -39,6 +45,12 @@ fn main() -> ExitCode {
             ExitCode::from(2)
         }
     }
+}
+
+/// One case of the library or of the program again.
+fn replay(kind: &str, seed: u64) -> Option<bool> {
+    let of_library = compare::Kind::named(kind).map(|kind| compare::replay(kind, seed));
+    of_library.or_else(|| program::Kind::named(kind).map(|kind| program::replay(kind, seed)))
 }
 
 fn number(text: &str) -> Option<u64> {

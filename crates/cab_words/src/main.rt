@@ -18,30 +18,57 @@ fn lent(car: Car, word: u32) -> Driven
     }
 }
 
-fn line(car: Car) -> Car {
-    let driven = lent(car, tester::next_word());
-    let after = driven.car;
-    tester::number(driven.refusal);
-    tester::number(after.speed);
-    tester::last(after.cruise.desired);
-    after
+// The car, the index of the next word and the index past the text.
+struct State {
+    car: Car,
+    next: usize,
+    end: usize,
 }
 
-fn lines(first: Car, count: u32) {
-    let mut car = first;
+fn line(state: State, out: &mut [u8], words: &[u32]) -> State {
+    let car = state.car;
+    let driven = lent(car, tester::word(words, state.next));
+    let after = driven.car;
+    let end = tester::numbers(out, state.end, &[driven.refusal, after.speed]);
+    State {
+        car: after,
+        next: tester::past(words, state.next, 1),
+        end: tester::last(out, end, after.cruise.desired),
+    }
+}
+
+fn lines(first: Car, count: u32, out: &mut [u8], words: &[u32]) -> usize {
+    let mut state = State {
+        car: first,
+        next: 3,
+        end: 0,
+    };
     let mut left = count;
     while left > 0 {
-        car = line(car);
+        state = line(state, out, words);
         left -= 1;
+    }
+    state.end
+}
+
+fn drive(out: &mut [u8], words: &[u32]) -> usize {
+    let count = tester::word(words, 0);
+    let mode = tester::word(words, 1);
+    let signs = tester::word(words, 2);
+    match Car::fresh(mode, signs) {
+        Fresh::Made(car) => lines(car, count, out, words),
+        Fresh::Refused(n) => tester::last(out, 0, n),
     }
 }
 
 fn main() {
-    let count = tester::next_word();
-    let mode = tester::next_word();
-    let signs = tester::next_word();
-    match Car::fresh(mode, signs) {
-        Fresh::Made(car) => lines(car, count),
-        Fresh::Refused(n) => tester::last(n),
+    let mut words = [0; 16384];
+    let input = tester::read_words(&mut words, b"cab_words: standard input");
+    if input.failed {
+        return;
     }
+    let mut out = [0; 131072];
+    let count = input.count;
+    let end = drive(&mut out, &words[0..count]);
+    tester::write(&out, end, b"cab_words: standard output");
 }

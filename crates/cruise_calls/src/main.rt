@@ -34,9 +34,8 @@ fn size_of(n: i32) -> u32 {
     size
 }
 
-fn signed(n: i32) {
-    tester::flag(n < 0);
-    tester::number(size_of(n));
+fn signed(out: &mut [u8], at: usize, n: i32) -> usize {
+    tester::numbers(out, at, &[event::bit(n < 0), size_of(n)])
 }
 
 // The settings word of mode and signs; settings outside their values have none, and get 0, which is refused as they are.
@@ -47,25 +46,42 @@ fn settings_word(mode: u32, signs: u32) -> u32 {
     }
 }
 
-fn fresh(words: &mut [u32]) {
-    let mode = tester::next_word();
-    let signs = tester::next_word();
-    tester::number(cruise::cruise_fresh(settings_word(mode, signs), words));
-    tester::end_line();
+// The index of the next word of the input and the index past the text.
+struct Place {
+    next: usize,
+    end: usize,
 }
 
-fn drive(words: &mut [u32]) {
-    let word = tester::next_word();
-    tester::number(cruise::cruise_drive(words, word));
-    tester::end_line();
+fn fresh(place: Place, out: &mut [u8], input: &[u32], words: &mut [u32]) -> Place {
+    let mut settings = [0; 2];
+    tester::fill(&mut settings, input, place.next);
+    let refusal = cruise::cruise_fresh(settings_word(settings[0], settings[1]), words);
+    Place {
+        next: tester::past(input, place.next, 2),
+        end: tester::words_line(out, place.end, &[refusal]),
+    }
+}
+
+fn drive(place: Place, out: &mut [u8], input: &[u32], words: &mut [u32]) -> Place {
+    let refusal = cruise::cruise_drive(words, tester::word(input, place.next));
+    Place {
+        next: tester::past(input, place.next, 1),
+        end: tester::words_line(out, place.end, &[refusal]),
+    }
 }
 
 // A lesson with the first answers for its own.
-fn teach(words: &mut [u32], events: &mut [u32], answers: &mut [u32], room: usize) {
+fn teach(
+    out: &mut [u8],
+    at: usize,
+    words: &mut [u32],
+    events: &[u32],
+    answers: &mut [u32],
+    room: usize,
+) -> usize {
     if answers.len() < room {
-        return;
+        return at;
     }
-    tester::fill(events);
     let mut accepted = 99;
     let mut refused = 99;
     let refusal = cruise::cruise_lesson(
@@ -75,33 +91,57 @@ fn teach(words: &mut [u32], events: &mut [u32], answers: &mut [u32], room: usize
         &mut accepted,
         &mut refused,
     );
-    tester::number(refusal);
-    tester::count(accepted);
-    tester::count(refused);
-    tester::end_line();
+    tester::lesson_line(out, at, refusal, accepted, refused)
 }
 
-fn lesson(words: &mut [u32]) {
-    let room = tester::next_size(MOST);
-    let end = START + tester::next_size(MOST);
-    let mut events = [UNUSED; 20];
+// A lesson whose words are the next of the input.
+fn taught(
+    place: Place,
+    out: &mut [u8],
+    input: &[u32],
+    words: &mut [u32],
+    events: &mut [u32],
+    room: usize,
+) -> Place {
+    tester::fill(events, input, place.next);
     let mut answers = [UNUSED; 16];
-    teach(words, &mut events[START..end], &mut answers, room);
-    tester::print_words(&answers);
-}
-
-fn call(kind: u32, words: &mut [u32]) {
-    match kind {
-        1 => {
-            tester::fill(words);
-        }
-        2 => fresh(words),
-        3 => drive(words),
-        _ => lesson(words),
+    let end = teach(out, place.end, words, events, &mut answers, room);
+    Place {
+        next: tester::past(input, place.next, events.len()),
+        end: tester::words_line(out, end, &answers),
     }
 }
 
-fn figures(words: &[u32]) {
+fn lesson(place: Place, out: &mut [u8], input: &[u32], words: &mut [u32]) -> Place {
+    let room = tester::size(input, place.next, MOST);
+    let second = tester::past(input, place.next, 1);
+    let end = START + tester::size(input, second, MOST);
+    let mut events = [UNUSED; 20];
+    let from = Place {
+        next: tester::past(input, second, 1),
+        end: place.end,
+    };
+    taught(from, out, input, words, &mut events[START..end], room)
+}
+
+fn set(place: Place, input: &[u32], words: &mut [u32]) -> Place {
+    tester::fill(words, input, place.next);
+    Place {
+        next: tester::past(input, place.next, words.len()),
+        end: place.end,
+    }
+}
+
+fn call(kind: u32, place: Place, out: &mut [u8], input: &[u32], words: &mut [u32]) -> Place {
+    match kind {
+        1 => set(place, input, words),
+        2 => fresh(place, out, input, words),
+        3 => drive(place, out, input, words),
+        _ => lesson(place, out, input, words),
+    }
+}
+
+fn figures(out: &mut [u8], at: usize, words: &[u32]) -> usize {
     let mut speed = UNUSED;
     let mut desired = UNUSED;
     let mut acceleration = 99;
@@ -117,72 +157,99 @@ fn figures(words: &[u32]) {
         &mut acoustic,
         &mut distance,
     );
-    tester::number(refusal);
-    tester::number(speed);
-    tester::number(desired);
-    signed(acceleration);
-    tester::number(visual);
-    tester::number(acoustic);
-    tester::number(distance);
+    let mut end = tester::numbers(out, at, &[refusal, speed, desired]);
+    end = signed(out, end, acceleration);
+    tester::numbers(out, end, &[visual, acoustic, distance])
 }
 
-fn alike(words: &[u32], before: &[u32]) {
+fn alike(out: &mut [u8], at: usize, words: &[u32], before: &[u32]) -> usize {
     let mut answer = UNUSED;
     let refusal = cruise::cruise_alike(words, before, &mut answer);
-    tester::number(refusal);
-    tester::number(answer);
+    tester::numbers(out, at, &[refusal, answer])
 }
 
-fn questions(words: &[u32], before: &[u32]) {
-    tester::number(cruise::cruise_test(words));
-    figures(words);
-    alike(words, before);
-    tester::end_line();
+fn questions(out: &mut [u8], at: usize, words: &[u32], before: &[u32]) -> usize {
+    let mut end = tester::number(out, at, cruise::cruise_test(words));
+    end = figures(out, end, words);
+    end = alike(out, end, words, before);
+    tester::end_line(out, end)
 }
 
 // Questions about the first words.
-fn ask(size: usize, words: &[u32], before: &[u32]) {
+fn ask(out: &mut [u8], at: usize, size: usize, words: &[u32], before: &[u32]) -> usize {
     if words.len() < size {
-        return;
+        return at;
     }
     if before.len() < size {
-        return;
+        return at;
     }
-    questions(&words[0..size], &before[0..size]);
+    questions(out, at, &words[0..size], &before[0..size])
 }
 
 // A call over the first words.
-fn lend(kind: u32, size: usize, words: &mut [u32]) {
+fn lend(
+    kind: u32,
+    size: usize,
+    place: Place,
+    out: &mut [u8],
+    input: &[u32],
+    words: &mut [u32],
+) -> Place {
     if words.len() < size {
-        return;
+        return place;
     }
-    call(kind, &mut words[0..size]);
+    call(kind, place, out, input, &mut words[0..size])
 }
 
 // The words, where the library was lent them to change.
-fn show(kind: u32, words: &[u32]) {
+fn show(out: &mut [u8], at: usize, kind: u32, words: &[u32]) -> usize {
     if kind > 1 {
-        tester::print_words(words);
+        return tester::words_line(out, at, words);
     }
+    at
 }
 
-fn calls(most: u32) {
+// What the library left of the words, and its answers about them.
+fn report(
+    out: &mut [u8],
+    at: usize,
+    kind: u32,
+    size: usize,
+    words: &[u32],
+    before: &[u32],
+) -> usize {
+    let end = show(out, at, kind, words);
+    ask(out, end, size, words, before)
+}
+
+// As many calls as there are words at most: each takes one.
+fn calls(out: &mut [u8], input: &[u32]) -> usize {
     let mut words = [UNUSED; 13];
-    let mut left = most;
+    let mut place = Place { next: 0, end: 0 };
+    let mut left = input.len();
     while left > 0 {
-        let kind = tester::next_word();
+        let kind = tester::word(input, place.next);
         if kind == 0 {
-            return;
+            return place.end;
         }
-        let size = tester::next_size(MOST);
+        let size = tester::size(input, tester::past(input, place.next, 1), MOST);
+        place.next = tester::past(input, place.next, 2);
         let before = words;
-        lend(kind, size, &mut words);
-        show(kind, &words);
-        ask(size, &words, &before);
+        place = lend(kind, size, place, out, input, &mut words);
+        place.end = report(out, place.end, kind, size, &words, &before);
         left -= 1;
     }
+    place.end
 }
 
 fn main() {
-    calls(10000);
+    let mut words = [0; 16384];
+    let input = tester::read_words(&mut words, b"cruise_calls: standard input");
+    if input.failed {
+        return;
+    }
+    let mut out = [0; 131072];
+    let count = input.count;
+    let end = calls(&mut out, &words[0..count]);
+    tester::write(&out, end, b"cruise_calls: standard output");
 }

@@ -3,7 +3,7 @@ ghost use mathlib.Core.Path.{_≡_};
 ghost use mathlib.Core.Bool.{true};
 ghost use lib.Dec.{eqb};
 ghost use Prim.Native.Nat.{_≤_};
-ghost use Rattle.event.specs.Words.{kindOf, inputKind, bodyOf, inputAnswer, readingAnswer, writingAnswer, permittedGap, inputRange, inRange, unnamedOf, judged, keyWord, radarWord, inputsOf, inputOf, readyOf, tickWord, readOf, bitOf, inputWord, wordOf, inputWriting, writeOf};
+ghost use Rattle.event.specs.Words.{kindOf, inputKind, bodyOf, inputAnswer, readingAnswer, writingAnswer, permittedGap, inputRange, unnamedOf, judged, keyWord, radarWord, inputsOf, inputOf, readyOf, tickWord, readOf, bitOf, inputWord, inputWriting, writeOf};
 use number::bound;
 
 pub mod refusal;

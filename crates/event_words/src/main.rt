@@ -25,24 +25,29 @@ fn same(word: u32) -> u32 {
     }
 }
 
-fn line(word: u32) {
-    tester::number(refusal(word));
-    tester::last(same(word));
+fn line(out: &mut [u8], at: usize, word: u32) -> usize {
+    let end = tester::number(out, at, refusal(word));
+    tester::last(out, end, same(word))
 }
 
-// To the end of the input: the count only falls because nothing says that an input ends.
-fn lines() {
-    let mut word = [0; 1];
-    let mut left = u32::MAX;
-    while left > 0 {
-        if !tester::fill(&mut word) {
-            return;
-        }
-        line(word[0]);
-        left -= 1;
+fn lines(out: &mut [u8], words: &[u32]) -> usize {
+    let mut end = 0;
+    let mut i = 0;
+    while i < words.len() {
+        end = line(out, end, words[i]);
+        i += 1;
     }
+    end
 }
 
 fn main() {
-    lines();
+    let mut words = [0; 16384];
+    let input = tester::read_words(&mut words, b"event_words: standard input");
+    if input.failed {
+        return;
+    }
+    let mut out = [0; 131072];
+    let count = input.count;
+    let end = lines(&mut out, &words[0..count]);
+    tester::write(&out, end, b"event_words: standard output");
 }

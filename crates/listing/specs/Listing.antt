@@ -3,7 +3,7 @@
 use mathlib.Core.Bool.{Bool, _||_}
 use mathlib.Core.List.{List, [], _∷_, _++_}
 use Prim.Native.Nat.{ℕ, zero, suc, _+_, _-_, _*_, _/_, _%_}
-use lib.Dec.{ltb}
+use lib.Dec.{leb, ltb}
 use lib.ListN.{length, take, drop}
 use Rattle.kit.specs.Pick.{pick}
 use Rattle.event.specs.Words.{bitOf}
@@ -57,13 +57,19 @@ linesOf first (w ∷ ws) (v ∷ vs) = lineOf first w v ++ linesOf (first + 1) ws
 unfoldable pub placed : List ℕ → ℕ → List ℕ → List ℕ
 placed out at text = take at out ++ text ++ drop (at + length text) out
 
--- put_lines: refused with fewer than 64 bytes for each event, where first + the count of events passes 2^64 - 1, or with fewer speeds
-unfoldable pub linesRefused : List ℕ → ℕ → List ℕ → List ℕ → Bool
-linesRefused out first ws vs =
-    ltb (length out) (64 * length ws) || ltb 18446744073709551615 (first + length ws) || ltb (length vs) (length ws)
+-- put from index `at` on where so many bytes are left for it, else nothing is put: the index past it, and the slice
+unfoldable pub putPast : List ℕ → ℕ → ℕ → List ℕ → ℕ
+putPast out at most text = pick (leb (at + most) (length out)) (at + length text) at
 
-unfoldable pub linesCount : List ℕ → ℕ → List ℕ → List ℕ → ℕ
-linesCount out first ws vs = pick (linesRefused out first ws vs) 0 (length (linesOf first ws vs))
+unfoldable pub putAfter : List ℕ → ℕ → ℕ → List ℕ → List ℕ
+putAfter out at most text = pick (leb (at + most) (length out)) (placed out at text) out
 
-unfoldable pub linesAfter : List ℕ → ℕ → List ℕ → List ℕ → List ℕ
-linesAfter out first ws vs = pick (linesRefused out first ws vs) out (placed out 0 (linesOf first ws vs))
+-- put_lines: 64 bytes for each event; refused where first + the count of events passes 2^64 - 1, or with fewer speeds
+unfoldable pub linesRefused : ℕ → List ℕ → List ℕ → Bool
+linesRefused first ws vs = ltb 18446744073709551615 (first + length ws) || ltb (length vs) (length ws)
+
+unfoldable pub linesPast : List ℕ → ℕ → ℕ → List ℕ → List ℕ → ℕ
+linesPast out at first ws vs = pick (linesRefused first ws vs) at (putPast out at (64 * length ws) (linesOf first ws vs))
+
+unfoldable pub linesAfter : List ℕ → ℕ → ℕ → List ℕ → List ℕ → List ℕ
+linesAfter out at first ws vs = pick (linesRefused first ws vs) out (putAfter out at (64 * length ws) (linesOf first ws vs))

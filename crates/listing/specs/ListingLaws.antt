@@ -1,4 +1,4 @@
--- Laws of the listing: digits, the length of a line, text after text in a slice.
+-- Laws of the listing: digits, the printed listing's lines, text after text in a slice.
 -- Assumes nothing.
 use mathlib.Core.Path.{_≡_, refl, sym, ap, _∙_}
 use mathlib.Core.Bool.{Bool, true, false}
@@ -13,7 +13,7 @@ use lib.Seq.{take-at, drop-append-add, drop-drop, length-take-le}
 use Rattle.kit.specs.Pick.{pick, pick-true, pick-false}
 use Rattle.event.specs.Words.{bitOf}
 use Rattle.answer.specs.AnswerWord.{readOf}
-use Rattle.listing.specs.Listing.{digit, decimalIn, decimalOf, fieldOf, signedOf, warningsOf, answerLine, lineOf, linesOf, placed, linesRefused, linesCount, linesAfter}
+use Rattle.listing.specs.Listing.{digit, decimalIn, decimalOf, fieldOf, signedOf, warningsOf, answerLine, lineOf, placed}
 
 -- ---- digits
 
@@ -51,8 +51,7 @@ pub warnings-four : (visual acoustic : ℕ) → visual < 2 → acoustic < 2 → 
 unfolding warningsOf fieldOf
 warnings-four visual acoustic h g = rw (decimal-one visual (omega arith), decimal-one acoustic (omega arith))
 
--- ---- the bound of a line
-
+-- the most digits of a number
 pub decimal-length : (k n : ℕ) → n < 10 ^ suc k → length (decimalOf n) ≤ suc k
 decimal-length zero n h = rw (decimal-one n h) (omega arith)
 decimal-length (suc k) n h = go (ltb n 10) refl (decimal-length k (n / 10) (omega (arith, pow-suc 10 (suc k))))
@@ -60,6 +59,8 @@ decimal-length (suc k) n h = go (ltb n 10) refl (decimal-length k (n / 10) (omeg
     go : (b : Bool) → ltb n 10 ≡ b → length (decimalOf (n / 10)) ≤ suc k → length (decimalOf n) ≤ suc (suc k)
     go true e g = rw (decimal-one n (ltb-true n 10 e)) (omega arith)
     go false e g = rw (decimal-more n (ltb-false n 10 e)) (simp length-append (omega arith))
+
+-- ---- the document's own listing
 
 -- lines 1, 4, 5, 7 and 10 of the printed listing
 pub printed-lines :
@@ -88,16 +89,3 @@ placed-more out at text more h =
   where
     head : length (take at out ++ text) ≡ at + length text
     head = length-append (take at out) text ∙ rw (length-take-le at out h)
-
--- ---- the count answered lies within the slice
--- a slice keeps its length over a call, so the caller has the premise
-pub lines-within : (out : List ℕ) (first : ℕ) (ws vs : List ℕ) → length (linesAfter out first ws vs) ≡ length out → linesCount out first ws vs ≤ length out
-unfolding linesCount linesAfter placed pick
-lines-within out first ws vs = go (linesRefused out first ws vs)
-  where
-    text : List ℕ
-    text = linesOf first ws vs
-
-    go : (b : Bool) → length (pick b out (placed out 0 text)) ≡ length out → pick b 0 (length text) ≤ length out
-    go true h = omega arith
-    go false h = let e = simp length-append at h in omega (arith, e)

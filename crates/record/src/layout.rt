@@ -1,6 +1,5 @@
 // The layout of the twelve words. Each starts with the mark 11 and its place: hexadecimal B0 to BB.
 ghost use mathlib.Core.Path.{_≡_};
-ghost use Prim.Native.Nat.{_≤_};
 ghost use Rattle.record.specs.Layout.{packed, unpacked, wordOf};
 ghost use Rattle.record.specs.LayoutLaws.{Fits};
 use car::Car;

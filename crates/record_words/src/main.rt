@@ -43,35 +43,45 @@ fn buffer_same(car: Car, words: [u32; 13]) -> bool {
     (refusal == 0) & same(&buffer, &words) & (buffer[12] == UNUSED)
 }
 
-fn loaded(car: Car, words: [u32; 13]) {
-    tester::number(0);
-    tester::numbers(&tester::fields_of(car));
+fn loaded(out: &mut [u8], at: usize, car: Car, words: [u32; 13]) -> usize {
+    let mut end = tester::number(out, at, 0);
+    end = tester::numbers(out, end, &tester::fields_of(car));
     let same = array_same(car, words) & buffer_same(car, words);
-    tester::last(event::bit(same));
+    tester::last(out, end, event::bit(same))
 }
 
-fn line(count: u32) {
-    let mut words = [0; 13];
-    tester::fill(&mut words);
+fn line(out: &mut [u8], at: usize, count: u32, words: [u32; 13]) -> usize {
     match read(words, count) {
-        Reading::Loaded(car) => loaded(car, words),
-        Reading::Refused(n) => tester::last(n),
+        Reading::Loaded(car) => loaded(out, at, car, words),
+        Reading::Refused(n) => tester::last(out, at, n),
     }
 }
 
-// To the end of the input: the count only falls because nothing says that an input ends.
-fn lines() {
-    let mut count = [0; 1];
-    let mut left = u32::MAX;
-    while left > 0 {
-        if !tester::fill(&mut count) {
-            return;
-        }
-        line(count[0]);
-        left -= 1;
+// The line of the record at an index of the input.
+fn record_line(out: &mut [u8], at: usize, input: &[u32], from: usize) -> usize {
+    let mut words = [0; 13];
+    tester::fill(&mut words, input, tester::past(input, from, 1));
+    line(out, at, tester::word(input, from), words)
+}
+
+fn lines(out: &mut [u8], input: &[u32]) -> usize {
+    let mut end = 0;
+    let mut from = 0;
+    while from < input.len() {
+        end = record_line(out, end, input, from);
+        from = tester::past(input, from, 14);
     }
+    end
 }
 
 fn main() {
-    lines();
+    let mut words = [0; 16384];
+    let input = tester::read_words(&mut words, b"record_words: standard input");
+    if input.failed {
+        return;
+    }
+    let mut out = [0; 131072];
+    let count = input.count;
+    let end = lines(&mut out, &words[0..count]);
+    tester::write(&out, end, b"record_words: standard output");
 }

@@ -9,7 +9,7 @@ use native.Mathlib.Omega.{arith}
 use lib.ListN.{length, take, drop, getD, set}
 use lib.Seq.{paste-suc}
 use Rattle.wire.specs.Wire.{joined, wordsOf, wordsCount, wordsAfter}
-use Rattle.wire.specs.WireLaws.{word-within, words-length, words-at}
+use Rattle.wire.specs.WireLaws.{words-length, words-at}
 
 pub filled : List ℕ → List ℕ → ℕ → List ℕ
 filled bs d i = take i (wordsOf bs) ++ drop i d
@@ -22,7 +22,7 @@ pub fill-more : (bs d b : List ℕ) (i x : ℕ) → i < length bs / 4 → i < le
     → x ≡ joined (getD bs (4 * i) 0) (getD bs (4 * i + 1) 0) (getD bs (4 * i + 2) 0) (getD bs (4 * i + 3) 0) → set b i x ≡ filled bs d (i + 1)
 unfolding filled
 fill-more bs d b i x h k e f =
-    let word : x ≡ getD (wordsOf bs) i 0 = f ∙ sym (words-at bs i h ∙ word-within bs (4 * i) (omega arith)) in
+    let word : x ≡ getD (wordsOf bs) i 0 = f ∙ sym (words-at bs i h) in
     rw (e, word, add-one) (simp zero-add at (paste-suc d 0 (wordsOf bs) i 0 (omega (arith, zero-add i)) (omega (arith, words-length bs))))
 
 pub fill-all : (bs d b : List ℕ) (i count : ℕ) → count ≡ min (length bs / 4) (length d) → i ≤ count → count ≤ i → b ≡ filled bs d i

@@ -1,6 +1,6 @@
 -- Little-endian words: document 01, "The cab, alike, and the program".
 -- Assumes nothing.
-use Prim.Native.Nat.{ℕ, zero, suc, _+_, _*_, _/_, min}
+use Prim.Native.Nat.{ℕ, _+_, _*_, _/_, min}
 use mathlib.Core.List.{List, [], _∷_, _++_}
 use lib.Dec.{ltb}
 use lib.ListN.{length, getD, take, drop}
@@ -16,14 +16,13 @@ wordAt bs i =
     pick (ltb (length bs) (i + 4)) 0
     (joined (getD bs i 0) (getD bs (i + 1) 0) (getD bs (i + 2) 0) (getD bs (i + 3) 0))
 
--- so many words, the first at an index
-unfoldable pub wordsFrom : List ℕ → ℕ → ℕ → List ℕ
-wordsFrom bs i zero = []
-wordsFrom bs i (suc n) = wordAt bs i ∷ wordsFrom bs (i + 4) n
-
 -- the whole words of the bytes
 unfoldable pub wordsOf : List ℕ → List ℕ
-wordsOf bs = wordsFrom bs 0 (length bs / 4)
+wordsOf [] = []
+wordsOf (a ∷ []) = []
+wordsOf (a ∷ b ∷ []) = []
+wordsOf (a ∷ b ∷ c ∷ []) = []
+wordsOf (a ∷ b ∷ c ∷ d ∷ bs) = joined a b c d ∷ wordsOf bs
 
 -- how many of them fit, and the slice with those in front: the rest of it is kept
 unfoldable pub wordsCount : List ℕ → List ℕ → ℕ

@@ -1,14 +1,15 @@
-use borrow.Author.Needs.{needs}
 use mathlib.Core.Path.{_≡_}
+use Prim.Native.Nat.{_-_, _/_}
+use borrow.Author.Needs.{needs}
 use lib.ListN.{length}
 use Rattle.car_figures.proofs.lines.Statement.{statement}
 use Rattle.car_figures.proofs.lines.Tie as tie
 
 abbrev Inv-loop : tie.InvT-loop
-Inv-loop fields₀ left₀ fields left = length fields ≡ 23
+Inv-loop out₀ start words end₀ i₀ out end i = length out ≡ length out₀
 
 abbrev μ-loop : tie.MeasureT-loop
-μ-loop fields₀ left₀ fields left = left
+μ-loop out₀ start words end₀ i₀ out end i = length words / 23 - i
 
 pub lines-spec : {M : Type 1} → statement M
 lines-spec =
@@ -19,9 +20,8 @@ lines-spec =
     (λ c. search needs)
     (λ c. search needs)
     (λ c κs. search needs)
+    (λ c κs. search needs)
     (λ c. search needs)
-    (λ c κs. search needs)
-    (λ c κs. search needs)
     (λ c. search needs)
     (λ c. search needs)
     (λ c. search needs)

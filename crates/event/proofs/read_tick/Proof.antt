@@ -1,6 +1,6 @@
 use borrow.Author.Needs.{needs}
 use mathlib.Core.Path.{sym, _∙_}
-use Rattle.kit.specs.Pick.{picks, pick-true, pick-false}
+use Rattle.kit.specs.Pick.{pick-true, pick-false}
 use Rattle.event.specs.Words.{tickWord}
 use Rattle.event.specs.WordLaws.{unnamed-yes, unnamed-no}
 use Rattle.event.proofs.read_tick.Statement.{statement}

@@ -1,4 +1,3 @@
-use borrow.Author.Needs.{needs}
 use Rattle.kit.specs.Pick.{picks}
 use Rattle.event.specs.Words.{unnamedOf}
 use Rattle.event.proofs.unnamed.Statement.{statement}

@@ -1,0 +1,15 @@
+use borrow.Author.Needs.{needs}
+use Rattle.exercise.proofs.Turning.{head-put}
+use Rattle.exercise.specs.Exercise.{ascii, headText}
+use Rattle.exercise.proofs.put_head.Statement.{statement}
+use Rattle.exercise.proofs.put_head.Tie as tie
+
+pub put-head-spec : {M : Type 1} → statement M
+unfolding ascii headText
+put-head-spec =
+    tie.close
+    (tie.spec
+    (λ c. search needs)
+    (λ c κs. search needs)
+    (λ c. search needs)
+    (λ c. head-put _ (c .before .before .before .before .before .before .pre) (c .before .before .put-text .ensures)))
