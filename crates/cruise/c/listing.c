@@ -35,5 +35,9 @@ int main(void)
         printf("%zu %" PRIu32 " %" PRIu32 " %" PRIu32 " %" PRId32 " %" PRIu32 " %" PRIu32 "\n", n + 1, refusal, speed, desired,
                acceleration, visual, acoustic);
     }
+    if (fflush(stdout) != 0 || ferror(stdout)) {
+        perror("listing: standard output");
+        return 1;
+    }
     return 0;
 }
