@@ -1,20 +1,28 @@
-//! Compares libcruise.a and the program `lesson` with a model of document 01, and measures the library and the model.
+//! Compares libcruise.a, the program `lesson` and the test programs' expected outputs with a model of document 01, and
+//! measures the library and the model.
 
+mod calls;
 mod compare;
+mod expected;
+mod inputs;
 mod library;
 mod listing;
+mod outside;
 mod paper;
 mod program;
 mod random;
 mod session;
 mod speed;
+mod tests;
 mod tuned;
 
 use std::process::ExitCode;
 use std::time::Instant;
 
-const USAGE: &str = "usage: [compare [SEED] | program [SEED] | replay KIND SEED | speed | once WORKLOAD WAY]
-compare tries the library, program the program `lesson`; with no argument both are tried
+const USAGE: &str = "usage: [tests [DIR] | compare [SEED] | program [SEED] | replay KIND SEED | speed | once WORKLOAD WAY]
+compare tries the library, program the program `lesson`; with no argument tests, compare and program are run
+tests holds the test programs' expected outputs to the model; with DIR, a folder of outside vectors, it holds that folder's
+answers to the model and then writes the programs' inputs and expected outputs
 KIND is one of fresh, walk, lesson, damaged, cars, alike, tuned of the library, short, failing, pages, file, pipe, live
 of the program; a SEED is decimal or 0x hexadecimal
 WORKLOAD is one of mixed, accepted, ticks, random; WAY is library or tuned";
@@ -24,7 +32,9 @@ fn main() -> ExitCode {
     let arguments: Vec<String> = std::env::args().skip(1).collect();
     let arguments: Vec<&str> = arguments.iter().map(String::as_str).collect();
     let agrees = match arguments[..] {
-        [] => Some(compare::run(1) && program::run(1)),
+        [] => Some(tests::run() && compare::run(1) && program::run(1)),
+        ["tests"] => Some(tests::run()),
+        ["tests", folder] => Some(tests::renew(folder)),
         ["compare"] => Some(compare::run(1)),
         ["compare", seed] => number(seed).map(compare::run),
         ["program"] => Some(program::run(1)),

@@ -352,9 +352,9 @@ pub fn following_car(random: &mut Random) -> Car {
 #[derive(Clone, Copy)]
 pub struct Field {
     pub name: &'static str,
-    place: usize,
-    low: u32,
-    width: u32,
+    pub place: usize,
+    pub low: u32,
+    pub width: u32,
     top: u32,
 }
 
@@ -389,10 +389,15 @@ pub const FIELDS: [Field; 23] = [
 ];
 
 impl Field {
+    /// The field's value in a record.
+    pub fn read(&self, record: &[u32]) -> u32 {
+        record[self.place] >> self.low & ((1 << self.width) - 1)
+    }
+
     /// Another value for this field: at an edge, just outside, beside the present one, or anywhere.
     pub fn change(&self, random: &mut Random, record: &mut [u32; 12]) {
         let all_ones = (1 << self.width) - 1;
-        let present = record[self.place] >> self.low & all_ones;
+        let present = self.read(record);
         let value = match random.below(8) {
             0 => 0,
             1 => 1,

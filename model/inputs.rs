@@ -1,0 +1,253 @@
+//! The test programs' inputs from a folder of outside vectors. What the folder does not have is kept from the input as
+//! it stands.
+
+use crate::calls::{run_all, Call, Fields, Outcome, UNUSED};
+use crate::expected::{bytes_of, split_calls, split_cruise_calls, words_of};
+use crate::outside::Folder;
+use crate::paper::Car;
+use std::fs;
+
+/// A file of the repository, from its top.
+pub fn read(path: &str) -> Result<Vec<u8>, String> {
+    fs::read(path).map_err(|error| format!("{path}: {error}"))
+}
+
+/// A program's input as it stands.
+pub fn stdin(name: &str) -> Result<Vec<u8>, String> {
+    read(&format!("crates/{name}/stdin"))
+}
+
+/// The event words of two exercise files.
+pub fn event_words(folder: &Folder) -> Result<Vec<u8>, String> {
+    match (folder.bytes("every-kind-every-low-bit.bin")?, folder.bytes("random-words.bin")?) {
+        (Some(first), Some(second)) => Ok([first.get(4..), second.get(4..)].map(Option::unwrap_or_default).concat()),
+        _ => stdin("event_words"),
+    }
+}
+
+/// The longest exercise file.
+pub fn lesson(folder: &Folder) -> Result<Vec<u8>, String> {
+    folder.bytes("clock-end.bin")?.map_or_else(|| stdin("lesson"), Ok)
+}
+
+/// The words of an exercise file, behind their number and the settings.
+pub fn cab_words(folder: &Folder) -> Result<Vec<u8>, String> {
+    let Some(file) = folder.bytes("walk-1.bin")? else {
+        return stdin("cab_words");
+    };
+    let words = words_of(&file);
+    let car = words.first().and_then(|&settings| Car::start(settings).ok()).ok_or("walk-1.bin: no settings word")?;
+    let settings = [words.len() as u32 - 1, car.mode as u32, u32::from(car.signs)];
+    Ok(bytes_of(&[&settings, &words[1..]].concat()))
+}
+
+/// All records, each behind its number of words and with zeros up to thirteen.
+pub fn record_words(folder: &Folder) -> Result<Vec<u8>, String> {
+    let Some(records) = folder.records()? else {
+        return stdin("record_words");
+    };
+    let mut words = Vec::new();
+    for record in records {
+        words.push(record.len() as u32);
+        words.extend_from_slice(&record);
+        words.resize(words.len().next_multiple_of(14), 0);
+    }
+    Ok(bytes_of(&words))
+}
+
+// ---------------------------------------------------------------- car_figures
+
+/// Document 01's car of the visual warning, the first of the cars added by hand.
+const TABLE_CAR: Fields = Fields([2, 0, 2, 0, 0, 0, 0, 0, 0, 1, 1, 500, 0, 500, 0, 0, 0, 19, 300, 0, 20, 0, 0]);
+
+/// The cars of the records that have a record's form, the cars after the words that calls drive, and the cars added by
+/// hand, which are kept.
+pub fn car_figures(folder: &Folder) -> Result<Vec<u8>, String> {
+    let cars = figure_cars(folder)?;
+    Ok(bytes_of(&cars.iter().flat_map(|car| car.0).collect::<Vec<_>>()))
+}
+
+fn figure_cars(folder: &Folder) -> Result<Vec<Fields>, String> {
+    let words = words_of(&stdin("car_figures")?);
+    let present: Vec<Fields> = words.chunks_exact(23).map(|car| Fields(car.try_into().expect("23 words"))).collect();
+    let (Some(records), Some(calls)) = (folder.records()?, folder.calls("calls")?) else {
+        return Ok(present);
+    };
+    let by_hand = present.iter().position(|car| *car == TABLE_CAR).ok_or("car_figures: no car of the table")?;
+    let mut cars: Vec<Fields> = records.iter().filter_map(|record| Fields::of_record(record)).collect();
+    for (call, outcome) in calls_from_fresh(&calls) {
+        if matches!(call, Call::Drive(_)) {
+            cars.extend(outcome.car);
+        }
+    }
+    cars.extend(&present[by_hand..]);
+    Ok(cars)
+}
+
+/// The calls that have a car, with what they give, but for readings and the calls behind one up to the next fresh car:
+/// those are `calls`'s alone, for want of room in the others.
+fn calls_from_fresh(calls: &[Call]) -> Vec<(&Call, Outcome)> {
+    let mut is_read = false;
+    let mut chosen = Vec::new();
+    for (call, outcome) in calls.iter().zip(run_all(calls)) {
+        is_read = matches!(call, Call::Read(_)) || is_read && !matches!(call, Call::Fresh { .. });
+        chosen.extend(outcome.filter(|_| !is_read).map(|outcome| (call, outcome)));
+    }
+    chosen
+}
+
+// ---------------------------------------------------------------- calls
+
+/// How many calls of the input, the last ones, are the edges': 149 cars with two words each.
+const EDGE_CALLS: usize = 3 * 149;
+
+/// The calls, then those of the edges.
+pub fn calls(folder: &Folder) -> Result<Vec<u8>, String> {
+    let present = words_of(&stdin("calls")?);
+    let present = split_calls(&present)?;
+    let edges = present.len().checked_sub(EDGE_CALLS).ok_or("calls: no edges")?;
+    let mut words = folder.calls("calls")?.map_or(present[..edges].concat(), |calls| encoded(&calls));
+    match folder.calls("edges")? {
+        None => words.extend(present[edges..].concat()),
+        Some(calls) if calls.len() == EDGE_CALLS => words.extend(encoded(&calls)),
+        Some(calls) => return Err(format!("edges.in: {} calls, and not {EDGE_CALLS}", calls.len())),
+    }
+    words.push(0);
+    Ok(bytes_of(&words))
+}
+
+/// Calls as `calls` reads them; those that have no car are left out.
+fn encoded(calls: &[Call]) -> Vec<u32> {
+    let mut words = Vec::new();
+    for (call, outcome) in calls.iter().zip(run_all(calls)) {
+        match (call, outcome) {
+            (_, None) => {}
+            (Call::Fresh { mode, signs }, _) => words.extend([1, *mode, *signs]),
+            (Call::Drive(word), _) => words.extend([3, *word]),
+            (Call::Lesson { room, words: events }, _) => {
+                words.extend([4, *room as u32, events.len() as u32]);
+                words.extend(events);
+            }
+            (Call::Record { length }, _) => words.extend([5, *length as u32]),
+            // A car as it stands; a refused reading leaves none.
+            (Call::Set(_) | Call::Change(_) | Call::Read(_), Some(outcome)) => {
+                words.extend(outcome.car.iter().flat_map(|car| [2].into_iter().chain(car.0)));
+            }
+        }
+    }
+    words
+}
+
+// ---------------------------------------------------------------- cruise_calls
+
+/// Pairs of cars for alike at the end of the input, two calls each, added by hand.
+const PAIR_CALLS: usize = 2 * 8;
+/// Behind each lesson that ran and whose number among these, from 0, is a multiple of this come calls that lend too few
+/// words or too many.
+const LESSONS_BETWEEN: usize = 40;
+const TICK: u32 = 0xA000_0001;
+/// How many cars with the visual warning alone, and how many with both.
+const WARNINGS: usize = 10;
+
+/// Fresh cars in buffers of all sizes, which are kept; the calls; some of the records; cars with warnings; and pairs of
+/// cars, which are kept.
+pub fn cruise_calls(folder: &Folder) -> Result<Vec<u8>, String> {
+    let (Some(records), Some(calls)) = (folder.records()?, folder.calls("calls")?) else {
+        return stdin("cruise_calls");
+    };
+    let present = words_of(&stdin("cruise_calls")?);
+    let present = split_cruise_calls(&present)?;
+    let pairs = present.len().checked_sub(PAIR_CALLS).ok_or("cruise_calls: no pairs of cars")?;
+    let mut words = present[..first_call(&present).ok_or("cruise_calls: no calls")?].concat();
+    words.extend(lent_calls(&calls)?);
+    for record in chosen_records(&records) {
+        words.extend(set(record));
+    }
+    for record in warnings(&figure_cars(folder)?) {
+        words.extend(set(&record));
+    }
+    words.extend(present[pairs..].concat());
+    words.push(0);
+    Ok(bytes_of(&words))
+}
+
+/// The call that sets the words lent.
+fn set(words: &[u32]) -> Vec<u32> {
+    [&[1, words.len() as u32], words].concat()
+}
+
+/// Where the calls start: at the words set anew before the last fresh car before a word driven or a lesson.
+fn first_call(present: &[&[u32]]) -> Option<usize> {
+    let first = present.iter().position(|call| call[0] > 2)?;
+    present[..first].iter().rposition(|call| call[..2] == [1, 13])
+}
+
+/// Calls as `cruise_calls` reads them: all thirteen words are set anew before a car is made; a car without check is set
+/// as a record; record calls are left out.
+fn lent_calls(calls: &[Call]) -> Result<Vec<u32>, String> {
+    let mut words = Vec::new();
+    let mut ran = 0;
+    for (call, outcome) in calls_from_fresh(calls) {
+        match call {
+            Call::Fresh { mode, signs } => {
+                if outcome.refusal == 0 {
+                    words.extend(set(&[UNUSED; 13]));
+                }
+                words.extend([2, 12, *mode, *signs]);
+            }
+            Call::Drive(word) => words.extend([3, 12, *word]),
+            Call::Lesson { room, words: events } => {
+                words.extend([4, 12, *room as u32, events.len() as u32]);
+                words.extend(events);
+                if outcome.refusal == 0 {
+                    words.extend(if ran % LESSONS_BETWEEN == 0 { wrongly_lent() } else { Vec::new() });
+                    ran += 1;
+                }
+            }
+            Call::Set(_) | Call::Change(_) => {
+                let record =
+                    outcome.car.and_then(|car| car.record()).ok_or("cruise_calls: a car that no record shows")?;
+                words.extend(set(&record));
+            }
+            Call::Record { .. } | Call::Read(_) => {}
+        }
+    }
+    Ok(words)
+}
+
+/// A tick, a lesson with room for its answers and one without, with 0, 11 and 13 words lent.
+fn wrongly_lent() -> Vec<u32> {
+    [0, 11, 13].iter().flat_map(|&lent| [3, lent, TICK, 4, lent, 2, 2, TICK, TICK, 4, lent, 1, 2, TICK, TICK]).collect()
+}
+
+/// Of the records 40 accepted, 60 refused ones of twelve words, 12 of eleven and 12 of thirteen, at even steps of each
+/// kind; the kinds mixed by how far each has come.
+fn chosen_records(records: &[Vec<u32>]) -> Vec<&[u32]> {
+    let kind = |record: &[u32]| match record.len() {
+        12 if Car::read(record).is_some() => 0,
+        12 => 1,
+        11 => 2,
+        _ => 3,
+    };
+    let mut chosen = Vec::new();
+    for (number, count) in [40, 60, 12, 12].into_iter().enumerate() {
+        let of_kind: Vec<&[u32]> = records.iter().map(Vec::as_slice).filter(|record| kind(record) == number).collect();
+        for step in 0..count.min(of_kind.len()) {
+            let at = step * of_kind.len() / count;
+            chosen.push((at, of_kind.len(), of_kind[at]));
+        }
+    }
+    // A stable sort: the kinds in their order where they have come equally far.
+    chosen.sort_by(|a, b| (a.0 * b.1).cmp(&(b.0 * a.1)));
+    chosen.into_iter().map(|(_, _, record)| record).collect()
+}
+
+/// The records of the first cars with the visual warning alone, and of the first with both.
+fn warnings(cars: &[Fields]) -> Vec<[u32; 12]> {
+    let good: Vec<Car> = cars.iter().filter_map(Fields::car).collect();
+    let with = |acoustic| {
+        let warned = move |car: &&Car| car.visual_warning() && car.acoustic_warning() == acoustic;
+        good.iter().filter(warned).take(WARNINGS).map(Car::write)
+    };
+    with(false).chain(with(true)).collect()
+}

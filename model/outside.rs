@@ -1,0 +1,209 @@
+//! A folder of outside vectors: its inputs, and its answers held to the model's.
+
+use crate::calls::{run_all, Call, Fields, Outcome};
+use crate::expected::words_of;
+use crate::listing::Listing;
+use crate::paper::{Car, Event};
+use std::fs;
+use std::path::PathBuf;
+
+pub struct Folder {
+    path: PathBuf,
+    /// The files' names in order.
+    pub names: Vec<String>,
+}
+
+impl Folder {
+    pub fn open(path: &str) -> Result<Folder, String> {
+        let told = |error| format!("{path}: {error}");
+        let mut names = Vec::new();
+        for entry in fs::read_dir(path).map_err(told)? {
+            names.push(entry.map_err(told)?.file_name().to_string_lossy().into_owned());
+        }
+        names.sort();
+        Ok(Folder { path: PathBuf::from(path), names })
+    }
+
+    pub fn has(&self, name: &str) -> bool {
+        self.names.iter().any(|other| other == name)
+    }
+
+    /// The file's contents, if the folder has it.
+    pub fn bytes(&self, name: &str) -> Result<Option<Vec<u8>>, String> {
+        if !self.has(name) {
+            return Ok(None);
+        }
+        fs::read(self.path.join(name)).map(Some).map_err(|error| format!("{name}: {error}"))
+    }
+
+    fn text(&self, name: &str) -> Result<Option<String>, String> {
+        let bytes = self.bytes(name)?;
+        bytes.map(|bytes| String::from_utf8(bytes).map_err(|_| format!("{name}: no text"))).transpose()
+    }
+
+    /// The answers to an input that the folder has.
+    fn answers(&self, name: &str) -> Result<String, String> {
+        self.text(name)?.ok_or_else(|| format!("{name}: no such file"))
+    }
+
+    /// The calls of NAME.in.
+    pub fn calls(&self, name: &str) -> Result<Option<Vec<Call>>, String> {
+        let Some(text) = self.text(&format!("{name}.in"))? else {
+            return Ok(None);
+        };
+        let call = |(number, line)| read_call(line).ok_or_else(|| format!("{name}.in, line {number}: no call: {line}"));
+        (1..).zip(text.lines()).map(call).collect::<Result<_, String>>().map(Some)
+    }
+
+    /// The records of records.txt.
+    pub fn records(&self) -> Result<Option<Vec<Vec<u32>>>, String> {
+        let Some(text) = self.text("records.txt")? else {
+            return Ok(None);
+        };
+        let record = |line: &str| hex_words(line.split(" : ").next().unwrap_or(""));
+        let records: Option<Vec<_>> = text.lines().map(record).collect();
+        records.map(Some).ok_or_else(|| String::from("records.txt: a record that is no list of words"))
+    }
+}
+
+fn hex_words(text: &str) -> Option<Vec<u32>> {
+    text.split_whitespace().map(hex_word).collect()
+}
+
+fn hex_word(text: &str) -> Option<u32> {
+    u32::from_str_radix(text, 16).ok()
+}
+
+fn read_call(line: &str) -> Option<Call> {
+    let (kind, rest) = line.split_once(' ')?;
+    let parts: Vec<&str> = rest.split_whitespace().collect();
+    match (kind, &parts[..]) {
+        ("fresh", [mode, signs]) => Some(Call::Fresh { mode: mode.parse().ok()?, signs: signs.parse().ok()? }),
+        ("car", changes) => changes.iter().map(|change| read_change(change)).collect::<Option<_>>().map(Call::Change),
+        ("read", _) => hex_words(rest).map(Call::Read),
+        ("drive", [word]) => hex_word(word).map(Call::Drive),
+        ("lesson", [room, words @ ..]) => Some(Call::Lesson {
+            room: room.parse().ok()?,
+            words: words.iter().map(|word| hex_word(word)).collect::<Option<_>>()?,
+        }),
+        ("record", [length]) => Some(Call::Record { length: length.parse().ok()? }),
+        _ => None,
+    }
+}
+
+fn read_change(text: &str) -> Option<(String, u32)> {
+    let (name, value) = text.split_once('=')?;
+    Some((String::from(name), value.parse().ok()?))
+}
+
+// ---------------------------------------------------------------- Answers held to the model's
+
+impl Folder {
+    /// Holds every answer that the folder gives to the model's. Gives the number of lines.
+    pub fn hold(&self) -> Result<usize, String> {
+        let mut lines = self.hold_calls("calls")? + self.hold_calls("edges")? + self.hold_records()?;
+        for name in self.names.iter().filter_map(|name| name.strip_suffix(".bin")) {
+            lines += self.hold_listing(name)?;
+        }
+        Ok(lines)
+    }
+
+    fn hold_calls(&self, name: &str) -> Result<usize, String> {
+        let Some(calls) = self.calls(name)? else {
+            return Ok(0);
+        };
+        let given = self.answers(&format!("{name}.txt"))?;
+        let asked = self.answers(&format!("{name}.in"))?;
+        let mut model = Vec::new();
+        for (number, ((call, outcome), line)) in (1..).zip(calls.iter().zip(run_all(&calls)).zip(asked.lines())) {
+            model.push(format!("call {number} {line}"));
+            model.extend(call_answers(call, outcome));
+        }
+        hold_lines(&format!("{name}.txt"), &given, &model)
+    }
+
+    fn hold_records(&self) -> Result<usize, String> {
+        let Some(records) = self.records()? else {
+            return Ok(0);
+        };
+        let model: Vec<String> =
+            records.iter().map(|record| format!("{} : {}", hex(record), reading(record))).collect();
+        hold_lines("records.txt", &self.answers("records.txt")?, &model)
+    }
+
+    /// Holds NAME.txt to the model's listing of NAME.bin, and its refusals 1 to 3, which come before all others, to
+    /// the model's readings of the words.
+    fn hold_listing(&self, name: &str) -> Result<usize, String> {
+        let file = self.bytes(&format!("{name}.bin"))?.unwrap_or_default();
+        let answers = format!("{name}.txt");
+        let given = self.answers(&answers)?;
+        let model = Listing::of(&file).text;
+        let lines = hold_lines(&answers, &given, &model.lines().map(String::from).collect::<Vec<_>>())?;
+        if given != model {
+            return Err(difference(&answers, "folder", "other blanks or ends of lines", "the listing's"));
+        }
+        for (word, line) in words_of(&file).iter().zip(given.lines()).skip(1) {
+            let refusal =
+                line.split(' ').nth(1).and_then(|refusal| refusal.parse().ok()).filter(|n| (1..=3).contains(n));
+            let read = Event::read(*word).err();
+            if read != refusal {
+                let what = format!("{answers}, word {word:08X}");
+                return Err(difference(&what, "folder", line, &format!("refusal {}", read.unwrap_or(0))));
+            }
+        }
+        Ok(lines)
+    }
+}
+
+/// A call's answer and the car afterwards, as a folder gives them.
+fn call_answers(call: &Call, outcome: Option<Outcome>) -> Vec<String> {
+    let Some(outcome) = outcome else {
+        return vec![String::from("no car"), String::from("car none")];
+    };
+    let Outcome { refusal, answer, accepted, refused, .. } = outcome;
+    let mut lines = match call {
+        Call::Drive(_) => vec![format!("refusal {refusal} answer {answer:08X}")],
+        Call::Lesson { .. } => vec![format!("refusal {refusal} accepted {accepted} refused {refused}")],
+        _ => vec![format!("refusal {refusal}")],
+    };
+    if matches!(call, Call::Lesson { .. } | Call::Record { .. }) {
+        lines.push(format!("buffer {}", hex(&outcome.buffer)));
+    }
+    lines.push(outcome.car.map_or(String::from("car none"), |car| format!("car {}", car.text())));
+    lines
+}
+
+/// What reading a record gives, as a folder tells it.
+fn reading(record: &[u32]) -> String {
+    match Car::read(record) {
+        Some(car) => format!("car {}", Fields::of(&car).text()),
+        None => String::from("refused 18"),
+    }
+}
+
+fn hex(words: &[u32]) -> String {
+    words.iter().map(|word| format!("{word:08X}")).collect::<Vec<_>>().join(" ")
+}
+
+/// Holds a folder's lines to the model's. A blank at a line's end and a field towing that is 0, which today's car does
+/// not have, are passed over.
+fn hold_lines(name: &str, given: &str, model: &[String]) -> Result<usize, String> {
+    let given: Vec<String> = given.lines().map(|line| line.trim_end().replace(" towing=0 ", " ")).collect();
+    let mut call = String::new();
+    for number in 0..given.len().max(model.len()) {
+        let given = given.get(number).map_or("(no line)", String::as_str);
+        let model = model.get(number).map_or("(no line)", |line| line.trim_end());
+        if given.starts_with("call ") {
+            call = format!(", {given}");
+        }
+        if given != model {
+            return Err(difference(&format!("{name}, line {}{call}", number + 1), "folder", given, model));
+        }
+    }
+    Ok(given.len())
+}
+
+/// A difference told: where, what one side has, and what the model has.
+pub fn difference(place: &str, side: &str, given: &str, model: &str) -> String {
+    format!("DIFFERENCE in {place}\n{:8} {given}\n{:8} {model}", format!("{side}:"), "model:")
+}
