@@ -32,11 +32,11 @@ pub fn lesson(folder: &Folder) -> Result<Vec<u8>, String> {
 
 /// The words of an exercise file, behind their number and the settings.
 pub fn cab_words(folder: &Folder) -> Result<Vec<u8>, String> {
-    let Some(file) = folder.bytes("walk-1.bin")? else {
+    let Some(file) = folder.bytes("walk-3.bin")? else {
         return stdin("cab_words");
     };
     let words = words_of(&file);
-    let car = words.first().and_then(|&settings| Car::start(settings).ok()).ok_or("walk-1.bin: no settings word")?;
+    let car = words.first().and_then(|&settings| Car::start(settings).ok()).ok_or("walk-3.bin: no settings word")?;
     let settings = [words.len() as u32 - 1, car.mode as u32, u32::from(car.signs)];
     Ok(bytes_of(&[&settings, &words[1..]].concat()))
 }
@@ -75,7 +75,7 @@ fn figure_cars(folder: &Folder) -> Result<Vec<Fields>, String> {
     };
     let by_hand = present.iter().position(|car| *car == TABLE_CAR).ok_or("car_figures: no car of the table")?;
     let mut cars: Vec<Fields> = records.iter().filter_map(|record| Fields::of_record(record)).collect();
-    for (call, outcome) in calls_from_fresh(&calls) {
+    for (call, outcome) in chosen_calls(&calls) {
         if matches!(call, Call::Drive(_)) {
             cars.extend(outcome.car);
         }
@@ -84,16 +84,24 @@ fn figure_cars(folder: &Folder) -> Result<Vec<Fields>, String> {
     Ok(cars)
 }
 
-/// The calls that have a car, with what they give, but for readings and the calls behind one up to the next fresh car:
-/// those are `calls`'s alone, for want of room in the others.
-fn calls_from_fresh(calls: &[Call]) -> Vec<(&Call, Outcome)> {
-    let mut is_read = false;
+/// The calls that have a car, with what they give. Of the readings, with the calls up to the next fresh car or reading,
+/// only those before a word of the up-down lever: the others are `calls`'s alone, for want of room here.
+fn chosen_calls(calls: &[Call]) -> Vec<(&Call, Outcome)> {
+    let mut is_chosen = true;
     let mut chosen = Vec::new();
-    for (call, outcome) in calls.iter().zip(run_all(calls)) {
-        is_read = matches!(call, Call::Read(_)) || is_read && !matches!(call, Call::Fresh { .. });
-        chosen.extend(outcome.filter(|_| !is_read).map(|outcome| (call, outcome)));
+    for (number, (call, outcome)) in calls.iter().zip(run_all(calls)).enumerate() {
+        is_chosen = match call {
+            Call::Fresh { .. } => true,
+            Call::Read(_) => calls.get(number + 1).is_some_and(drives_up_down),
+            _ => is_chosen,
+        };
+        chosen.extend(outcome.filter(|_| is_chosen).map(|outcome| (call, outcome)));
     }
     chosen
+}
+
+fn drives_up_down(call: &Call) -> bool {
+    matches!(call, Call::Drive(word) if word >> 28 == 2)
 }
 
 // ---------------------------------------------------------------- calls
@@ -182,12 +190,12 @@ fn first_call(present: &[&[u32]]) -> Option<usize> {
     present[..first].iter().rposition(|call| call[..2] == [1, 13])
 }
 
-/// Calls as `cruise_calls` reads them: all thirteen words are set anew before a car is made; a car without check is set
-/// as a record; record calls are left out.
+/// Calls as `cruise_calls` reads them: all thirteen words are set anew before a car is made; a car without check and one
+/// that is read are set as records; record calls are left out.
 fn lent_calls(calls: &[Call]) -> Result<Vec<u32>, String> {
     let mut words = Vec::new();
     let mut ran = 0;
-    for (call, outcome) in calls_from_fresh(calls) {
+    for (call, outcome) in chosen_calls(calls) {
         match call {
             Call::Fresh { mode, signs } => {
                 if outcome.refusal == 0 {
@@ -209,7 +217,8 @@ fn lent_calls(calls: &[Call]) -> Result<Vec<u32>, String> {
                     outcome.car.and_then(|car| car.record()).ok_or("cruise_calls: a car that no record shows")?;
                 words.extend(set(&record));
             }
-            Call::Record { .. } | Call::Read(_) => {}
+            Call::Read(record) => words.extend(set(record)),
+            Call::Record { .. } => {}
         }
     }
     Ok(words)

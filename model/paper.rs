@@ -439,12 +439,13 @@ impl Car {
         }
         if lever.is_out() && self.cruise {
             let whole_tens = self.desired / 100 * 100;
+            let greatest_multiple_below = (self.desired - 1).div_euclid(100) * 100;
             self.desired = match lever {
                 UpDown::Neutral => self.desired,
                 UpDown::Up5 => (self.desired + 10).min(2000),
                 UpDown::Up7 => (whole_tens + 100).min(2000),
                 UpDown::Down5 => (self.desired - 10).max(10),
-                UpDown::Down7 => (whole_tens - 100).max(10),
+                UpDown::Down7 => greatest_multiple_below.max(10),
             };
             self.lever_time = self.now;
             self.lever_base = self.desired;

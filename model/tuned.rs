@@ -207,7 +207,7 @@ impl Car {
                 1 => (self.d + 10).min(2000),
                 2 => (self.d / 100 * 100 + 100).min(2000),
                 3 => self.d.saturating_sub(10).max(10),
-                _ => (self.d / 100 * 100).saturating_sub(100).max(10),
+                _ => (self.d.saturating_sub(1) / 100 * 100).max(10),
             };
             (self.t, self.base) = (self.now, self.d);
         } else {

@@ -6,7 +6,7 @@ use mathlib.Core.List.{[], _∷_}
 use Prim.Native.Nat.{ℕ}
 use lib.IntN.{ℤ, pos, negℤ}
 use Rattle.kit.specs.Pick.{pick}
-use Rattle.desired.specs.Desired.{up5, up7, down5, down7, stepped, longHeld, held}
+use Rattle.desired.specs.Desired.{up5, up7, down5, hundredBelow, down7, stepped, longHeld, held}
 use Rattle.motion.specs.Acceleration.{signed, speeding, slowing}
 use Rattle.motion.specs.Speed.{change}
 use Rattle.car.specs.declared.Car.{Car}
@@ -56,25 +56,27 @@ pub figures-together :
     ∷ signed (change (slowing 30))  -- −30
     ∷ pos (stepped 2000 2 570)  -- up7 from 570
     ∷ pos (stepped 2000 4 570)  -- down7 from 570;
+    ∷ pos (stepped 2000 4 500)  -- from 500;
     ∷ pos (stepped 2000 4 100)  -- from 100
     ∷ pos (stepped 2000 1 1995)  -- up5 from 1995
     ∷ pos (held 2000 1 500 1)  -- hold up5, B 500: h 1,
     ∷ pos (held 2000 1 500 2)  -- h 2,
     ∷ pos (ticked (holding 0) true .cruise .desired)  -- and by the ticks at h 1
     ∷ pos (ticked (holding 1) true .cruise .desired)  -- and h 2
-    ∷ pos (held 2000 4 550 4)  -- hold down7, B 550, h 4
+    ∷ pos (held 2000 4 550 4)  -- hold down7, h 4: B 550,
+    ∷ pos (held 2000 4 500 4)  -- B 500
     ∷ pos (secureDistance (behind 19 300))  -- N at G 20, v 500, W 300
     ∷ answer (visual (behind 19 300))  -- visual at v 500: R 19,
     ∷ answer (visual (behind 20 300))  -- 20
     ∷ []
     ≡ negℤ (pos 3) ∷ pos 21 ∷ negℤ (pos 108)
     ∷ pos 600
-    ∷ pos 400 ∷ pos 10
+    ∷ pos 500 ∷ pos 400 ∷ pos 10
     ∷ pos 2000
     ∷ pos 500 ∷ pos 510 ∷ pos 500 ∷ pos 510
-    ∷ pos 300
+    ∷ pos 300 ∷ pos 300
     ∷ pos 27
     ∷ pos 1 ∷ pos 0
     ∷ []
-unfolding signed change speeding slowing stepped up5 up7 down5 down7 held longHeld secureDistance metres visual within ahead ticked tickDesired holdDesired ceilingOf pick
+unfolding signed change speeding slowing stepped up5 up7 down5 hundredBelow down7 held longHeld secureDistance metres visual within ahead ticked tickDesired holdDesired ceilingOf pick
 figures-together = refl

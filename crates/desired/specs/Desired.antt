@@ -4,7 +4,8 @@ use Prim.Native.Nat.{ℕ, _+_, _-_, _*_, _/_, min, max}
 use lib.Dec.{eqb, leb, ltb}
 use Rattle.kit.specs.Pick.{pick}
 
--- "C = 1 gives up5 min(2000, D + 10); up7 min(2000, D÷100×100 + 100); down5 max(10, D − 10); down7 max(10, D÷100×100 − 100)"
+-- "C = 1 gives up5 min(2000, D + 10); up7 min(2000, D÷100×100 + 100); down5 max(10, D − 10);
+-- down7 the greatest multiple of 100 strictly below D, and at least 10"
 unfoldable pub up5 : ℕ → ℕ → ℕ
 up5 top d = min top (d + 10)
 
@@ -14,8 +15,12 @@ up7 top d = min top (d / 100 * 100 + 100)
 unfoldable pub down5 : ℕ → ℕ
 down5 d = max 10 (d - 10)
 
+-- the greatest multiple of 100 strictly below D, for a D of 1 or more; 0 for 0
+unfoldable pub hundredBelow : ℕ → ℕ
+hundredBelow d = (d - 1) / 100 * 100
+
 unfoldable pub down7 : ℕ → ℕ
-down7 d = max 10 (d / 100 * 100 - 100)
+down7 d = max 10 (hundredBelow d)
 
 -- D after a move to position 1, 2, 3 or 4
 unfoldable pub stepped : ℕ → ℕ → ℕ → ℕ

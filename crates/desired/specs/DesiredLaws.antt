@@ -1,18 +1,29 @@
--- Laws of the desired speed by the up-down lever, over the ceiling: D stays within 1 and the ceiling.
+-- Laws of the desired speed by the up-down lever: what down7 gives; and, over the ceiling, D stays within 1 and the ceiling.
 -- Assumes nothing.
 use mathlib.Core.Path.{_≡_}
-use Prim.Native.Nat.{ℕ, _-_, _≤_, _<_}
+use Prim.Native.Nat.{ℕ, _-_, _*_, _/_, _≤_, _<_}
 use native.Mathlib.Omega.{arith}
 use Rattle.kit.specs.Pick.{picks, pick-le, le-pick}
-use Rattle.desired.specs.Desired.{up5, up7, down5, down7, stepped, longHeld, held}
+use Rattle.desired.specs.Desired.{up5, up7, down5, hundredBelow, down7, stepped, longHeld, held}
+
+-- "the greatest multiple of 100 strictly below D"
+pub record GreatestBelow (d n : ℕ) : Type 0 where
+  pub hundreds : ℕ
+  pub multiple : n ≡ hundreds * 100
+  pub below : n < d
+  pub greatest : (k : ℕ) → k * 100 < d → k * 100 ≤ n
+
+pub hundredBelow-greatest : (d : ℕ) → 1 ≤ d → GreatestBelow d (hundredBelow d)
+unfolding hundredBelow
+hundredBelow-greatest d p = record { hundreds = hundredBelow d / 100; multiple = omega arith; below = omega arith; greatest = λ k h. omega arith }
 
 module _ (top : ℕ) (low : 10 ≤ top) where
   pub stepped-le : (x d : ℕ) → d ≤ top → stepped top x d ≤ top
-  unfolding stepped up5 up7 down5 down7
+  unfolding stepped up5 up7 down5 down7 hundredBelow
   stepped-le x d h = pick-le _ _ _ _ (omega arith) (pick-le _ _ _ _ (omega arith) (pick-le _ _ _ _ (omega arith) (omega arith)))
 
   pub stepped-pos : (x d : ℕ) → 1 ≤ stepped top x d
-  unfolding stepped up5 up7 down5 down7
+  unfolding stepped up5 up7 down5 down7 hundredBelow
   stepped-pos x d = le-pick _ _ _ _ (omega arith) (le-pick _ _ _ _ (omega arith) (le-pick _ _ _ _ (omega arith) (omega arith)))
 
   pub longHeld-le : (x b h : ℕ) → b ≤ top → longHeld top x b h ≤ top

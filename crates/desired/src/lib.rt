@@ -50,7 +50,7 @@ fn down5(d: u32) -> u32
 fn down7(d: u32) -> u32
     ensures { λ r. ⌜ r ≡ down7 d ⌝ }
 {
-    lowered(d / 100 * 100, 100)
+    most(10, less(d, 1) / 100 * 100)
 }
 
 // D after a move to the position with cruise on.
