@@ -1,4 +1,4 @@
--- Document 01, "Figures proved together": one table, checked by one fact.
+-- Document 01, "Figures proved together", with the figures that document 02, §1 gives beside them: one table, checked by one fact.
 -- Assumes nothing.
 use mathlib.Core.Bool.{Bool, true, false}
 use mathlib.Core.Path.{_≡_, refl}
