@@ -98,10 +98,11 @@ pub struct Outcome {
     pub answer: u32,
     /// Are the cars before and after the word driven alike?
     pub alike: bool,
+    /// Of a copy, the number written.
     pub accepted: usize,
     pub refused: usize,
     pub buffer: Vec<u32>,
-    /// The car afterwards; none after a refused fresh car or reading.
+    /// The car afterwards; none after a refused fresh car, reading or copy.
     pub car: Option<Fields>,
 }
 
@@ -174,4 +175,29 @@ pub fn run_all(calls: &[Call]) -> Vec<Option<Outcome>> {
         outcome
     };
     calls.iter().map(run).collect()
+}
+
+// ---------------------------------------------------------------- Copies
+
+/// A clean copy of a lesson from settings.
+pub struct Copy {
+    pub mode: u32,
+    pub signs: u32,
+    pub room: usize,
+    pub words: Vec<u32>,
+}
+
+impl Copy {
+    pub fn run(&self) -> Outcome {
+        copied(Car::fresh(self.mode, self.signs), self.room, &self.words)
+    }
+}
+
+/// A clean copy of a lesson from a car that is there, or was refused.
+pub fn copied(car: Result<Car, u32>, room: usize, words: &[u32]) -> Outcome {
+    let mut buffer = vec![UNUSED; room];
+    match car.and_then(|car| Ok((car.copy(words, &mut buffer)?, car.accepted(words).1))) {
+        Ok((accepted, car)) => Outcome { accepted, buffer, car: Some(Fields::of(&car)), ..Outcome::default() },
+        Err(refusal) => Outcome { refusal, buffer, ..Outcome::default() },
+    }
 }

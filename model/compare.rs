@@ -18,9 +18,10 @@ pub enum Kind {
     Cars,
     Alike,
     Tuned,
+    Copy,
 }
 
-const KINDS: [(Kind, &str); 7] = [
+const KINDS: [(Kind, &str); 8] = [
     (Kind::Fresh, "fresh"),
     (Kind::Walk, "walk"),
     (Kind::Lesson, "lesson"),
@@ -28,10 +29,11 @@ const KINDS: [(Kind, &str); 7] = [
     (Kind::Cars, "cars"),
     (Kind::Alike, "alike"),
     (Kind::Tuned, "tuned"),
+    (Kind::Copy, "copy"),
 ];
 
 /// One round of cases; a run is many rounds.
-const ROUND: [Kind; 12] = [
+const ROUND: [Kind; 13] = [
     Kind::Fresh,
     Kind::Walk,
     Kind::Lesson,
@@ -39,6 +41,7 @@ const ROUND: [Kind; 12] = [
     Kind::Cars,
     Kind::Alike,
     Kind::Tuned,
+    Kind::Copy,
     Kind::Walk,
     Kind::Lesson,
     Kind::Damaged,
@@ -102,6 +105,7 @@ fn run_case(kind: Kind, seed: u64, tally: &mut Tally, shown: bool) -> Result<(),
         Kind::Cars => cars_case(bench, random),
         Kind::Alike => alike_case(bench, random),
         Kind::Tuned => tuned_case(bench, random),
+        Kind::Copy => copy_case(bench, random),
     }
 }
 
@@ -232,6 +236,28 @@ fn tuned_case(bench: &mut Bench, random: &mut Random) -> Result<(), Difference> 
     Ok(())
 }
 
+/// Clean copies of a lesson from settings, some of them bad, into buffers of any length.
+fn copy_case(bench: &mut Bench, random: &mut Random) -> Result<(), Difference> {
+    let settings = if random.once_in(4) { random::settings_word(random) } else { random::good_settings(random) };
+    let car = Car::start(settings).unwrap_or_else(|_| random::fresh_car(random));
+    let count = copy_count(random);
+    let words = match random.below(4) {
+        0 => random::accepted_words(random, car, count),
+        _ => random::event_words(random, car, count),
+    };
+    let accepted = car.accepted(&words).0.len();
+    let (all, start) = amid(random, &words);
+    for _ in 0..6 {
+        let mut copy = copy_buffer(random, accepted, count);
+        bench.copy(settings, &all, start, count, &mut copy)?;
+    }
+    let mut copy = Buffer::random(random, accepted);
+    if bench.copy(settings, &all, start, count, &mut copy)? {
+        bench.copy_again(settings, &words, copy.lend().unwrap_or(&[]))?;
+    }
+    Ok(())
+}
+
 /// A sensible word where there is a car to know, else noise.
 fn any_word(random: &mut Random, car: Option<Car>) -> u32 {
     match car {
@@ -247,6 +273,33 @@ fn answer_buffer(random: &mut Random, count: usize) -> Buffer {
         1 => count.saturating_sub(1),
         2..=4 => count,
         _ => count + random.below(20) as usize,
+    };
+    Buffer::random(random, room)
+}
+
+/// How many words of a lesson the library copies at a time.
+const PART: usize = 1024;
+
+/// How many words a lesson to copy has: a few, some thousands, or as many as whole parts have, and two less or more.
+fn copy_count(random: &mut Random) -> usize {
+    match random.below(4) {
+        0 => random.below(20) as usize,
+        1 => random.below(5000) as usize,
+        _ => random.pick(&[1, 2, 3]) * PART + random.below(5) as usize - 2,
+    }
+}
+
+/// A buffer for a copy: of lengths round the accepted words' and round the lesson's, shorter, between, and longer.
+fn copy_buffer(random: &mut Random, accepted: usize, count: usize) -> Buffer {
+    let room = match random.below(10) {
+        0 => 0,
+        1 => random.below(accepted as u32 + 1) as usize,
+        2 | 3 => accepted.saturating_sub(1),
+        4 => accepted,
+        5 => accepted + 1,
+        6 => accepted + random.below((count - accepted) as u32 + 1) as usize,
+        7 | 8 => (count + random.below(3) as usize).saturating_sub(1),
+        _ => count + random.below(3000) as usize,
     };
     Buffer::random(random, room)
 }
@@ -308,9 +361,23 @@ impl Buffer {
         self.words == self.expected
     }
 
+    /// The first word that is not as expected, counted from the first guard.
+    fn wrong_place(&self) -> Option<usize> {
+        self.words.iter().zip(&self.expected).position(|(found, expected)| found != expected)
+    }
+
     fn guards_hold(&self) -> bool {
         self.words[..MARGIN] == [GUARD; MARGIN] && self.words[MARGIN + self.length()..] == [GUARD; MARGIN]
     }
+}
+
+/// Words somewhere in a longer array, and their place there.
+fn amid(random: &mut Random, words: &[u32]) -> (Buffer, usize) {
+    let start = random.pick(&[0, 0, 1, 7]);
+    let mut all: Vec<u32> = (0..start).map(|_| random.word()).collect();
+    all.extend_from_slice(words);
+    all.extend((0..random.pick(&[0, 0, 1, 9])).map(|_| random.word()));
+    (Buffer::holding(random, &all), start)
 }
 
 fn hex(words: &[u32]) -> String {
@@ -453,11 +520,7 @@ impl Bench<'_> {
         record: &mut Buffer,
         words: &[u32],
     ) -> Result<Option<Car>, Difference> {
-        let start = random.pick(&[0, 0, 1, 7]);
-        let mut all: Vec<u32> = (0..start).map(|_| random.word()).collect();
-        all.extend_from_slice(words);
-        all.extend((0..random.pick(&[0, 0, 1, 9])).map(|_| random.word()));
-        let all = Buffer::holding(random, &all);
+        let (all, start) = amid(random, words);
         let mut answers = answer_buffer(random, words.len());
         self.lesson(car, record, &all, start, words.len(), &mut answers)
     }
@@ -493,7 +556,7 @@ impl Bench<'_> {
             && record.is_as_expected()
             && answers.is_as_expected()
             && all.is_as_expected();
-        let place = answers.words.iter().zip(&answers.expected).position(|(found, expected)| found != expected);
+        let place = answers.wrong_place();
         let part = |buffer: &[u32]| place.map_or(String::from("as expected"), |place| format!("{:08X}", buffer[place]));
         self.judge(
             same,
@@ -599,7 +662,7 @@ impl Bench<'_> {
         let end = MARGIN + answers.length();
         let given = tuned::lesson(&car, words, &mut answers.words[MARGIN..end]);
         self.tally.tuned_words += words.len() as u64;
-        let place = answers.words.iter().zip(&answers.expected).position(|(found, expected)| found != expected);
+        let place = answers.wrong_place();
         let part = |buffer: &[u32]| place.map(|place| format!("{:08X}", buffer[place]));
         self.judge(
             given == expected && place.is_none(),
@@ -612,6 +675,85 @@ impl Bench<'_> {
         )?;
         Ok(expected.map_or(car, |lesson| lesson.car))
     }
+
+    /// A clean copy of a lesson from settings: was it written?
+    fn copy(
+        &mut self,
+        settings: u32,
+        all: &Buffer,
+        start: usize,
+        count: usize,
+        copy: &mut Buffer,
+    ) -> Result<bool, Difference> {
+        let words = all.lend().map(|all| &all[start..start + count]);
+        let copied = Car::start(settings).and_then(|car| car.copy(words.unwrap_or(&[]), copy.expected_mut()));
+        let (refusal, written) = (copied.err().unwrap_or(0), copied.unwrap_or(0));
+        let (given, out) = library::copy(settings, words, copy.lend_mut());
+        let guard = GUARD as usize;
+        self.tally.count(Call::Copy, refusal);
+        self.tally.copied_words += written as u64;
+        let part = |buffer: &[u32]| match copy.wrong_place() {
+            Some(place) => format!("word {:08X} at {}", buffer[place], place as isize - MARGIN as isize),
+            None => String::from("words as expected"),
+        };
+        self.judge(
+            given == refusal && out == [guard, written, guard] && copy.is_as_expected() && all.is_as_expected(),
+            || {
+                let words = word_count(words.unwrap_or(&[]), self.shown);
+                format!(
+                    "cruise_copy settings {settings:08X} room {} (from {start} of the caller's) {words}",
+                    copy.length()
+                )
+            },
+            || format!("{refusal} written {written} {}", part(&copy.expected)),
+            || {
+                format!(
+                    "{given} written {}{} {}{}{}",
+                    out[1],
+                    complaint(out[0] == guard && out[2] == guard, " GUARDS OVERWRITTEN"),
+                    part(&copy.words),
+                    complaint(copy.guards_hold(), " GUARDS OVERWRITTEN"),
+                    complaint(all.is_as_expected(), " CALLER'S WORDS CHANGED"),
+                )
+            },
+        )?;
+        Ok(copied.is_ok())
+    }
+
+    /// Of the library alone: driving the copy refuses nothing and ends in the car that the lesson ends in, and copying
+    /// the copy changes nothing.
+    fn copy_again(&mut self, settings: u32, words: &[u32], copy: &[u32]) -> Result<(), Difference> {
+        let (_, _, record) = driven(settings, words);
+        let (refusal, refused, copy_record) = driven(settings, copy);
+        self.judge(
+            (refusal, refused, copy_record) == (0, 0, record),
+            || format!("cruise_lesson of a copy, settings {settings:08X} {}", word_count(copy, self.shown)),
+            || format!("0 refused 0 record {} as after the lesson", hex(&record)),
+            || format!("{refusal} refused {refused} record {}", hex(&copy_record)),
+        )?;
+        let mut again = vec![GUARD; copy.len()];
+        let (refusal, out) = library::copy(settings, Some(copy), Some(&mut again));
+        self.judge(
+            refusal == 0 && out[1] == copy.len() && again == copy,
+            || format!("cruise_copy of a copy, settings {settings:08X} {}", word_count(copy, self.shown)),
+            || format!("0 written {}, the same words", copy.len()),
+            || format!("{refusal} written {}{}", out[1], complaint(again == copy, ", OTHER WORDS")),
+        )
+    }
+}
+
+/// A lesson from the fresh car of its settings, by the library: the refusal, the count refused and the record.
+fn driven(settings: u32, words: &[u32]) -> (u32, usize, [u32; 12]) {
+    let mut record = [0; 12];
+    library::fresh(settings, Some(&mut record));
+    let (refusal, counts) = library::lesson(Some(&mut record), Some(words), Some(&mut vec![0; words.len()]));
+    (refusal, counts[3], record)
+}
+
+/// How many words, and in a replay all of them.
+fn word_count(words: &[u32], shown: bool) -> String {
+    let all = if shown { format!(" {}", hex(words)) } else { String::new() };
+    format!("words {}{all}", words.len())
 }
 
 /// The record as it was before a call on this car.
@@ -656,9 +798,10 @@ enum Call {
     Test,
     Figures,
     Alike,
+    Copy,
 }
 
-const CALL_NAMES: [&str; 6] = ["fresh", "drive", "lesson", "test", "figures", "alike"];
+const CALL_NAMES: [&str; 7] = ["fresh", "drive", "lesson", "test", "figures", "alike", "copy"];
 
 #[derive(Default)]
 struct Tally {
@@ -671,6 +814,7 @@ struct Tally {
     records: [u64; 2],
     alike: u64,
     tuned_words: u64,
+    copied_words: u64,
 }
 
 impl Tally {
@@ -694,6 +838,7 @@ impl Tally {
         println!("  {driven:>9} words driven singly, {in_lessons} in lessons, {} in tuned lessons", self.tuned_words);
         println!("  {:>9} records made by hand accepted, {} refused", self.records[1], self.records[0]);
         println!("  {:>9} pairs of cars alike", self.alike);
+        println!("  {:>9} words written in copies", self.copied_words);
         print!("{:>8}", "answer");
         CALL_NAMES.iter().for_each(|name| print!("{name:>10}"));
         println!("{:>14}", "lesson words");

@@ -1,22 +1,13 @@
 //! What each test program has to print for its input, by the model.
 
-use crate::calls::{Call, Fields, Outcome, UNUSED};
-use crate::listing::Listing;
+use crate::calls::{copied, Call, Fields, Outcome, UNUSED};
+use crate::exercise::{bytes_of, words_of, Given};
 use crate::paper::{Car, Event, Figures};
-use std::fmt::Write;
-
-/// The words of a file; bytes past the last whole word are passed over.
-pub fn words_of(bytes: &[u8]) -> Vec<u32> {
-    bytes.chunks_exact(4).map(|bytes| u32::from_le_bytes(bytes.try_into().expect("four bytes"))).collect()
-}
-
-pub fn bytes_of(words: &[u32]) -> Vec<u8> {
-    words.iter().flat_map(|word| word.to_le_bytes()).collect()
-}
+use std::io::Write;
 
 /// Lines of numbers, each with a blank behind it.
 #[derive(Default)]
-struct Page(String);
+struct Page(Vec<u8>);
 
 impl Page {
     fn numbers(&mut self, numbers: &[u32]) -> &mut Page {
@@ -25,7 +16,7 @@ impl Page {
     }
 
     fn end(&mut self) {
-        self.0.push('\n');
+        self.0.push(b'\n');
     }
 
     /// A line whose last number has no blank behind it.
@@ -35,9 +26,9 @@ impl Page {
     }
 }
 
-// ---------------------------------------------------------------- event_words, car_figures, record_words, cab_words, lesson
+// ---------------------------------------------------------------- Words, cars, records, the cab and the programs
 
-pub fn event_words(input: &[u8]) -> Result<String, String> {
+pub fn event_words(input: &[u8]) -> Result<Vec<u8>, String> {
     let mut page = Page::default();
     for word in words_of(input) {
         // An event has all bits of its word that are not fixed, so it is written as the same word again.
@@ -58,7 +49,7 @@ fn car_of(mut fields: [u32; 23]) -> Fields {
     Fields(fields)
 }
 
-pub fn car_figures(input: &[u8]) -> Result<String, String> {
+pub fn car_figures(input: &[u8]) -> Result<Vec<u8>, String> {
     let mut page = Page::default();
     for settings in 0..12 {
         page.tight(&[Car::fresh(settings / 3, settings % 3).err().unwrap_or(0)]);
@@ -79,7 +70,7 @@ fn figures_of(car: Option<Car>) -> (u32, Figures) {
     car.map_or((18, none), |car| (0, car.figures()))
 }
 
-pub fn record_words(input: &[u8]) -> Result<String, String> {
+pub fn record_words(input: &[u8]) -> Result<Vec<u8>, String> {
     let mut page = Page::default();
     for case in words_of(input).chunks(14) {
         let count = case[0] as usize;
@@ -97,7 +88,7 @@ pub fn record_words(input: &[u8]) -> Result<String, String> {
     Ok(page.0)
 }
 
-pub fn cab_words(input: &[u8]) -> Result<String, String> {
+pub fn cab_words(input: &[u8]) -> Result<Vec<u8>, String> {
     let mut page = Page::default();
     let words = words_of(input);
     let [count, mode, signs, words @ ..] = &words[..] else {
@@ -108,7 +99,7 @@ pub fn cab_words(input: &[u8]) -> Result<String, String> {
     }
     let mut car = match Car::fresh(*mode, *signs) {
         Ok(car) => car,
-        Err(refusal) => return Ok(format!("{refusal}\n")),
+        Err(refusal) => return Ok(format!("{refusal}\n").into_bytes()),
     };
     for &word in words {
         let driven = car.drive(word);
@@ -118,13 +109,18 @@ pub fn cab_words(input: &[u8]) -> Result<String, String> {
     Ok(page.0)
 }
 
-pub fn lesson(input: &[u8]) -> Result<String, String> {
-    Ok(Listing::of(input).text)
+pub fn lesson(input: &[u8]) -> Result<Vec<u8>, String> {
+    Ok(Given::listing(input).output)
+}
+
+pub fn clean(input: &[u8]) -> Result<Vec<u8>, String> {
+    Ok(Given::clean(input).output)
 }
 
 // ---------------------------------------------------------------- calls
 
-/// The input of `calls` or `cruise_calls` call by call, up to the 0 that ends it; `length` is that of the first call.
+/// The input of `calls`, `cruise_calls` or `copies` call by call, up to the 0 that ends it; `length` is that of the
+/// first call.
 fn split(mut words: &[u32], length: impl Fn(&[u32]) -> Option<usize>) -> Option<Vec<&[u32]>> {
     let mut calls = Vec::new();
     while *words.first()? != 0 {
@@ -164,7 +160,7 @@ fn call_of(words: &[u32]) -> Call {
     }
 }
 
-pub fn calls(input: &[u8]) -> Result<String, String> {
+pub fn calls(input: &[u8]) -> Result<Vec<u8>, String> {
     let mut page = Page::default();
     let mut car = Car::fresh(1, 0).ok().map(|car| Fields::of(&car));
     for call in split_calls(&words_of(input))?.into_iter().map(call_of) {
@@ -212,7 +208,7 @@ pub fn split_cruise_calls(words: &[u32]) -> Result<Vec<&[u32]>, String> {
     split(words, length).ok_or_else(|| String::from("cruise_calls: an input that it does not read, or only in part"))
 }
 
-pub fn cruise_calls(input: &[u8]) -> Result<String, String> {
+pub fn cruise_calls(input: &[u8]) -> Result<Vec<u8>, String> {
     let mut page = Page::default();
     let mut words = [UNUSED; 13];
     for call in split_cruise_calls(&words_of(input))? {
@@ -272,4 +268,55 @@ fn questions(page: &mut Page, words: &[u32], before: &[u32]) {
         (Some(car), Some(before)) => page.numbers(&[0, u32::from(car.alike(&before))]).end(),
         _ => page.numbers(&[18, 0]).end(),
     }
+}
+
+// ---------------------------------------------------------------- copies
+
+/// The greatest size of `copies`.
+const MOST_COPIED: u32 = 3072;
+
+/// The calls of the input of `copies`.
+fn split_copies(words: &[u32]) -> Result<Vec<&[u32]>, String> {
+    let length = |words: &[u32]| match words[0] {
+        1 => lesson_length(3, words.get(3..5)?, MOST_COPIED),
+        2 => lesson_length(24, words.get(24..26)?, MOST_COPIED),
+        3 => Some(3 + words.get(2)?.div_ceil(4) as usize),
+        _ => None,
+    };
+    split(words, length).ok_or_else(|| String::from("copies: an input that it does not read, or only in part"))
+}
+
+pub fn copies(input: &[u8]) -> Result<Vec<u8>, String> {
+    let mut page = Page::default();
+    for call in split_copies(&words_of(input))? {
+        match call[0] {
+            1 => {
+                let outcome = copied(Car::fresh(call[1], call[2]), call[3] as usize, &call[5..]);
+                // The call's, and the same by the library's function.
+                copy_lines(&mut page, &outcome);
+                copy_lines(&mut page, &outcome);
+            }
+            2 => {
+                let fields = car_of(call[1..24].try_into().expect("23 words"));
+                let outcome = copied(fields.car().ok_or(18), call[24] as usize, &call[26..]);
+                copy_lines(&mut page, &outcome);
+                page.numbers(&outcome.car.unwrap_or(fields).0).end();
+            }
+            _ => clean_lines(&mut page, &bytes_of(&call[3..])[..call[2] as usize]),
+        }
+    }
+    Ok(page.0)
+}
+
+fn copy_lines(page: &mut Page, outcome: &Outcome) {
+    page.numbers(&[outcome.refusal, outcome.accepted as u32]).end();
+    page.numbers(&outcome.buffer).end();
+}
+
+/// The same, however the file is cut.
+fn clean_lines(page: &mut Page, file: &[u8]) {
+    let clean = Given::clean(file);
+    let words = words_of(&clean.output);
+    page.numbers(&[clean.told, words.len() as u32]).end();
+    page.numbers(&words).end();
 }

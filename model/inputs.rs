@@ -1,8 +1,9 @@
 //! The test programs' inputs from a folder of outside vectors. What the folder does not have is kept from the input as
 //! it stands.
 
-use crate::calls::{run_all, Call, Fields, Outcome, UNUSED};
-use crate::expected::{bytes_of, split_calls, split_cruise_calls, words_of};
+use crate::calls::{run_all, Call, Copy, Fields, Outcome, UNUSED};
+use crate::exercise::{bytes_of, words_of};
+use crate::expected::{split_calls, split_cruise_calls};
 use crate::outside::Folder;
 use crate::paper::Car;
 use std::fs;
@@ -28,6 +29,11 @@ pub fn event_words(folder: &Folder) -> Result<Vec<u8>, String> {
 /// The longest exercise file.
 pub fn lesson(folder: &Folder) -> Result<Vec<u8>, String> {
     folder.bytes("clock-end.bin")?.map_or_else(|| stdin("lesson"), Ok)
+}
+
+/// The longest one of every folder.
+pub fn clean(folder: &Folder) -> Result<Vec<u8>, String> {
+    folder.bytes("pages-cycle.bin")?.map_or_else(|| stdin("clean"), Ok)
 }
 
 /// The words of an exercise file, behind their number and the settings.
@@ -259,4 +265,103 @@ fn warnings(cars: &[Fields]) -> Vec<[u32; 12]> {
         good.iter().filter(warned).take(WARNINGS).map(Car::write)
     };
     with(false).chain(with(true)).collect()
+}
+
+// ---------------------------------------------------------------- copies
+
+/// The exercise file copied from its settings: its words are more than are worked off at a time.
+const LONG_COPY: &str = "walk-5.bin";
+/// How many lessons with a refused word are copied from their car again, with room for exactly the accepted words; there
+/// is no room here for more.
+const EXACT_COPIES: usize = 40;
+/// How many bytes of an exercise file are taken at most: a page, a word and three bytes. Only the last one has more.
+const FILE_BYTES: usize = 4096 + 7;
+/// The exercise files whose clean files are made, and the size of the pieces they are cut into.
+const CUT_FILES: [(&str, u32); 14] = [
+    ("example.bin", 1),
+    ("settings-alone.bin", 3),
+    ("nothing.bin", 1),
+    ("cut-first.bin", 2),
+    ("cut-later.bin", 3),
+    ("bad-settings-0.bin", 1),
+    ("bad-settings-1.bin", 3),
+    ("bad-settings-2.bin", 4),
+    ("bad-settings-3.bin", 5),
+    ("bad-settings-4.bin", 8),
+    ("every-kind-every-low-bit.bin", 5),
+    ("random-words.bin", 7),
+    ("walk-1.bin", 1),
+    ("pages-cut.bin", 4096),
+];
+
+/// The copies, and two of a long lesson; the lessons of the calls as copies from the car at hand; exercise files.
+pub fn copies(folder: &Folder) -> Result<Vec<u8>, String> {
+    let needed = ["copy.in", "calls.in", LONG_COPY].into_iter().chain(CUT_FILES.map(|(name, _)| name));
+    if !needed.into_iter().all(|name| folder.has(name)) {
+        return stdin("copies");
+    }
+    let mut words = Vec::new();
+    for copy in folder.copies()?.into_iter().flatten().chain(long_copies(folder)?) {
+        words.extend([1, copy.mode, copy.signs]);
+        words.extend(copied(copy.room, &copy.words));
+    }
+    words.extend(car_copies(&folder.calls("calls")?.unwrap_or_default()));
+    for (name, cut) in CUT_FILES {
+        let mut file = folder.bytes(name)?.unwrap_or_default();
+        file.truncate(FILE_BYTES);
+        words.extend(cut_file(file, cut));
+    }
+    words.push(0);
+    Ok(bytes_of(&words))
+}
+
+/// A copy's room and its words behind their number.
+fn copied(room: usize, events: &[u32]) -> Vec<u32> {
+    [&[room as u32, events.len() as u32], events].concat()
+}
+
+/// A long lesson with room for exactly its accepted words, and for one less.
+fn long_copies(folder: &Folder) -> Result<[Copy; 2], String> {
+    let words = words_of(&folder.bytes(LONG_COPY)?.unwrap_or_default());
+    let start = words.first().and_then(|&settings| Car::start(settings).ok());
+    let car = start.ok_or_else(|| format!("{LONG_COPY}: no settings word"))?;
+    let accepted = car.accepted(&words[1..]).0.len();
+    let copy = |room| Copy { mode: car.mode as u32, signs: u32::from(car.signs), room, words: words[1..].to_vec() };
+    Ok([copy(accepted), copy(accepted.saturating_sub(1))])
+}
+
+/// The lessons of the calls, each as a copy from the car at hand, good or not, with the lesson's room; some with room
+/// for exactly the accepted words too.
+fn car_copies(calls: &[Call]) -> Vec<u32> {
+    let mut words = Vec::new();
+    let mut exact = 0;
+    let mut car = None;
+    for (call, outcome) in calls.iter().zip(run_all(calls)) {
+        if let (Call::Lesson { room, words: events }, Some(fields)) = (call, car) {
+            words.extend(car_copy(fields, *room, events));
+            if let Some(accepted) = some_accepted(fields, events).filter(|_| exact < EXACT_COPIES) {
+                words.extend(car_copy(fields, accepted, events));
+                exact += 1;
+            }
+        }
+        car = outcome.and_then(|outcome| outcome.car);
+    }
+    words
+}
+
+/// The number of accepted words, if the car is good and a word is refused.
+fn some_accepted(fields: Fields, events: &[u32]) -> Option<usize> {
+    let accepted = fields.car()?.accepted(events).0.len();
+    (accepted < events.len()).then_some(accepted)
+}
+
+fn car_copy(fields: Fields, room: usize, events: &[u32]) -> Vec<u32> {
+    [&[2], &fields.0[..], &copied(room, events)].concat()
+}
+
+/// An exercise file as words, the last one filled up, behind the size of its pieces and its length in bytes.
+fn cut_file(mut file: Vec<u8>, cut: u32) -> Vec<u32> {
+    let length = file.len();
+    file.resize(length.next_multiple_of(4), 0);
+    [&[3, cut, length as u32], &words_of(&file)[..]].concat()
 }

@@ -29,6 +29,14 @@ mod c {
             distance: *mut u32,
         ) -> u32;
         pub fn cruise_alike(a: *const u32, a_length: usize, b: *const u32, b_length: usize, alike: *mut u32) -> u32;
+        pub fn cruise_copy(
+            settings: u32,
+            words: *const u32,
+            count: usize,
+            copy: *mut u32,
+            room: usize,
+            written: *mut usize,
+        ) -> u32;
     }
 }
 
@@ -95,5 +103,14 @@ pub fn alike(a: Option<&[u32]>, b: Option<&[u32]>) -> (u32, [u32; 3]) {
     let (b, b_length) = lent(b);
     let mut out = [GUARD; 3];
     let refusal = unsafe { c::cruise_alike(a, a_length, b, b_length, out.as_mut_ptr().add(1)) };
+    (refusal, out)
+}
+
+/// The refusal, and: guard, written, guard.
+pub fn copy(settings: u32, words: Option<&[u32]>, copy: Option<&mut [u32]>) -> (u32, [usize; 3]) {
+    let (words, count) = lent(words);
+    let (copy, room) = lent_mut(copy);
+    let mut out = [GUARD as usize; 3];
+    let refusal = unsafe { c::cruise_copy(settings, words, count, copy, room, out.as_mut_ptr().add(1)) };
     (refusal, out)
 }

@@ -1,14 +1,15 @@
-//! Compares libcruise.a, the program `lesson` and the test programs' expected outputs with a model of document 01, and
-//! measures the library and the model.
+//! Compares libcruise.a, the programs `lesson` and `clean` and the test programs' expected outputs with a model of
+//! document 01, and measures the library and the model.
 
 mod calls;
 mod compare;
+mod exercise;
 mod expected;
 mod inputs;
 mod library;
-mod listing;
 mod outside;
 mod paper;
+mod parts;
 mod program;
 mod random;
 mod session;
@@ -20,12 +21,13 @@ use std::process::ExitCode;
 use std::time::Instant;
 
 const USAGE: &str = "usage: [tests [DIR] | compare [SEED] | program [SEED] | replay KIND SEED | speed | once WORKLOAD WAY]
-compare tries the library, program the program `lesson`; with no argument tests, compare and program are run
+compare tries the library, program the programs `lesson` and `clean`; with no argument tests, compare, program are run
 tests holds the test programs' expected outputs to the model; with DIR, a folder of outside vectors, it holds that folder's
 answers to the model and then writes the programs' inputs and expected outputs
-KIND is one of fresh, walk, lesson, damaged, cars, alike, tuned of the library, short, failing, pages, file, pipe, live
-of the program; a SEED is decimal or 0x hexadecimal
-WORKLOAD is one of mixed, accepted, ticks, random; WAY is library or tuned";
+KIND is one of fresh, walk, lesson, damaged, cars, alike, tuned, copy of the library, short, failing, pages, file, pipe,
+live, clean of the programs; a SEED is decimal or 0x hexadecimal
+WORKLOAD is one of mixed, accepted, ticks, random, fresh-ticks, fresh-random; WAY is one of library, tuned and, where
+the car is fresh (all but ticks and random), copy, exact";
 
 fn main() -> ExitCode {
     let start = Instant::now();
@@ -57,7 +59,7 @@ fn main() -> ExitCode {
     }
 }
 
-/// One case of the library or of the program again.
+/// One case of the library or of the programs again.
 fn replay(kind: &str, seed: u64) -> Option<bool> {
     let of_library = compare::Kind::named(kind).map(|kind| compare::replay(kind, seed));
     of_library.or_else(|| program::Kind::named(kind).map(|kind| program::replay(kind, seed)))

@@ -1,9 +1,9 @@
 //! A folder of outside vectors: its inputs, and its answers held to the model's.
 
-use crate::calls::{run_all, Call, Fields, Outcome};
-use crate::expected::words_of;
-use crate::listing::Listing;
+use crate::calls::{run_all, Call, Copy, Fields, Outcome};
+use crate::exercise::{bytes_of, is_refused, words_of, Given};
 use crate::paper::{Car, Event};
+use crate::parts::Parts;
 use std::fs;
 use std::path::PathBuf;
 
@@ -48,11 +48,21 @@ impl Folder {
 
     /// The calls of NAME.in.
     pub fn calls(&self, name: &str) -> Result<Option<Vec<Call>>, String> {
-        let Some(text) = self.text(&format!("{name}.in"))? else {
+        self.lines(&format!("{name}.in"), read_call)
+    }
+
+    /// The copies of copy.in.
+    pub fn copies(&self) -> Result<Option<Vec<Copy>>, String> {
+        self.lines("copy.in", read_copy)
+    }
+
+    /// A file's lines, each as it is read.
+    fn lines<T>(&self, name: &str, read: fn(&str) -> Option<T>) -> Result<Option<Vec<T>>, String> {
+        let Some(text) = self.text(name)? else {
             return Ok(None);
         };
-        let call = |(number, line)| read_call(line).ok_or_else(|| format!("{name}.in, line {number}: no call: {line}"));
-        (1..).zip(text.lines()).map(call).collect::<Result<_, String>>().map(Some)
+        let line = |(number, line)| read(line).ok_or_else(|| format!("{name}, line {number}: no call: {line}"));
+        (1..).zip(text.lines()).map(line).collect::<Result<_, String>>().map(Some)
     }
 
     /// The records of records.txt.
@@ -67,7 +77,11 @@ impl Folder {
 }
 
 fn hex_words(text: &str) -> Option<Vec<u32>> {
-    text.split_whitespace().map(hex_word).collect()
+    hex_parts(&text.split_whitespace().collect::<Vec<_>>())
+}
+
+fn hex_parts(parts: &[&str]) -> Option<Vec<u32>> {
+    parts.iter().map(|part| hex_word(part)).collect()
 }
 
 fn hex_word(text: &str) -> Option<u32> {
@@ -82,11 +96,21 @@ fn read_call(line: &str) -> Option<Call> {
         ("car", changes) => changes.iter().map(|change| read_change(change)).collect::<Option<_>>().map(Call::Change),
         ("read", _) => hex_words(rest).map(Call::Read),
         ("drive", [word]) => hex_word(word).map(Call::Drive),
-        ("lesson", [room, words @ ..]) => Some(Call::Lesson {
-            room: room.parse().ok()?,
-            words: words.iter().map(|word| hex_word(word)).collect::<Option<_>>()?,
-        }),
+        ("lesson", [room, words @ ..]) => Some(Call::Lesson { room: room.parse().ok()?, words: hex_parts(words)? }),
         ("record", [length]) => Some(Call::Record { length: length.parse().ok()? }),
+        _ => None,
+    }
+}
+
+/// Mode, signs, towing, which today's settings do not have, the buffer's length and the words.
+fn read_copy(line: &str) -> Option<Copy> {
+    match &line.split_whitespace().collect::<Vec<_>>()[..] {
+        [mode, signs, "0", room, words @ ..] => Some(Copy {
+            mode: mode.parse().ok()?,
+            signs: signs.parse().ok()?,
+            room: room.parse().ok()?,
+            words: hex_parts(words)?,
+        }),
         _ => None,
     }
 }
@@ -101,7 +125,8 @@ fn read_change(text: &str) -> Option<(String, u32)> {
 impl Folder {
     /// Holds every answer that the folder gives to the model's. Gives the number of lines.
     pub fn hold(&self) -> Result<usize, String> {
-        let mut lines = self.hold_calls("calls")? + self.hold_calls("edges")? + self.hold_records()?;
+        let mut lines =
+            self.hold_calls("calls")? + self.hold_calls("edges")? + self.hold_records()? + self.hold_copies()?;
         for name in self.names.iter().filter_map(|name| name.strip_suffix(".bin")) {
             lines += self.hold_listing(name)?;
         }
@@ -131,13 +156,21 @@ impl Folder {
         hold_lines("records.txt", &self.answers("records.txt")?, &model)
     }
 
+    fn hold_copies(&self) -> Result<usize, String> {
+        let Some(copies) = self.copies()? else {
+            return Ok(0);
+        };
+        let model: Vec<String> = copies.iter().map(|copy| copy_answer(&copy.run())).collect();
+        hold_lines("copy.txt", &self.answers("copy.txt")?, &model)
+    }
+
     /// Holds NAME.txt to the model's listing of NAME.bin, and its refusals 1 to 3, which come before all others, to
-    /// the model's readings of the words.
+    /// the model's readings of the words; and the model's clean file of NAME.bin to NAME.txt.
     fn hold_listing(&self, name: &str) -> Result<usize, String> {
         let file = self.bytes(&format!("{name}.bin"))?.unwrap_or_default();
         let answers = format!("{name}.txt");
         let given = self.answers(&answers)?;
-        let model = Listing::of(&file).text;
+        let model = String::from_utf8(Given::listing(&file).output).expect("a text");
         let lines = hold_lines(&answers, &given, &model.lines().map(String::from).collect::<Vec<_>>())?;
         if given != model {
             return Err(difference(&answers, "folder", "other blanks or ends of lines", "the listing's"));
@@ -151,8 +184,34 @@ impl Folder {
                 return Err(difference(&what, "folder", line, &format!("refusal {}", read.unwrap_or(0))));
             }
         }
+        hold_clean(&answers, &file, &given)?;
         Ok(lines)
     }
+}
+
+/// Holds the model's clean file to a listing: the settings word and the words whose line shows no refusal; 17 and 21 as
+/// the listing ends in them.
+fn hold_clean(name: &str, file: &[u8], listing: &str) -> Result<(), String> {
+    let clean = Given::clean(file);
+    let last = listing.lines().last().unwrap_or_default();
+    let told = last.strip_prefix("refused ").and_then(|refusal| refusal.parse().ok()).unwrap_or(0);
+    if told != clean.told {
+        return Err(difference(&format!("{name}, the clean file"), "folder", last, &format!("refusal {}", clean.told)));
+    }
+    let kept = words_of(file).into_iter().zip(listing.lines()).filter(|(_, line)| !is_refused(line));
+    let kept: Vec<u32> = kept.map(|(word, _)| word).collect();
+    match Parts::Words.difference(&bytes_of(&kept), &clean.output) {
+        None => Ok(()),
+        Some((place, [folder, model])) => {
+            Err(difference(&format!("{name}, the clean file, {place}"), "folder", &folder, &model))
+        }
+    }
+}
+
+/// A copy's answer as a folder gives it.
+fn copy_answer(outcome: &Outcome) -> String {
+    let Outcome { refusal, accepted, buffer, .. } = outcome;
+    format!("refusal {refusal} written {accepted} buffer {}", hex(buffer))
 }
 
 /// A call's answer and the car afterwards, as a folder gives them.

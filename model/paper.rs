@@ -1,4 +1,5 @@
-//! The plain model: document 01 in its own order, with its check numbers and rule letters as labels.
+//! The plain model: document 01 in its own order, with its check numbers and rule letters as labels, as the requests of
+//! document 02 have changed it so far.
 
 /// The end of the clock.
 pub const CLOCK_END: i32 = 86_400;
@@ -835,6 +836,32 @@ impl Car {
             *answer = lesson.car.answer(refusal);
         }
         Ok(lesson)
+    }
+}
+
+// ---------------------------------------------------------------- A clean copy of a lesson
+
+impl Car {
+    /// The accepted words of a lesson from a good car, in order, and the car after them.
+    pub fn accepted(&self, words: &[u32]) -> (Vec<u32>, Car) {
+        let mut car = *self;
+        let mut accepted = Vec::new();
+        for &word in words {
+            if let Ok(next) = car.drive(word) {
+                car = next;
+                accepted.push(word);
+            }
+        }
+        (accepted, car)
+    }
+
+    /// Puts the accepted words of a lesson from a good car, in order, into the buffer, and gives their number; words
+    /// past the copy keep their contents. 19: a buffer shorter than the accepted words, left untouched. A copy from
+    /// settings runs from their fresh car, so that 17 is looked at before.
+    pub fn copy(&self, words: &[u32], buffer: &mut [u32]) -> Result<usize, u32> {
+        let (accepted, _) = self.accepted(words);
+        buffer.get_mut(..accepted.len()).ok_or(19u32)?.copy_from_slice(&accepted);
+        Ok(accepted.len())
     }
 }
 

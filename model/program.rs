@@ -1,9 +1,11 @@
-//! The program `lesson` against the model: its listings by each way in, what it tells of failures, its help and its
-//! usage. Each case grows from one 64-bit seed, so that it can be run again alone.
+//! The programs `lesson` and `clean` against the model: what they give for an exercise file by each way in, what they
+//! tell of failures, their help and their usage. Each case is tried on both, and grows from one 64-bit seed, so that it
+//! can be run again alone.
 
-use crate::listing::Listing;
+use crate::exercise::{bytes_of, is_refused, words_of, Given};
 use crate::paper::Car;
-use crate::random::{self, Driver, Random};
+use crate::parts::Parts;
+use crate::random::{self, Random};
 use crate::session::{Left, Session, LIMIT};
 use std::ffi::OsStr;
 use std::fs::{self, File};
@@ -16,12 +18,47 @@ use std::process::{Command, Stdio};
 use std::thread;
 use std::time::Duration;
 
-const PROGRAM: &str = "target/bin/lesson";
 /// The exercise file of the run under way; after a difference it is still there.
 const FILE: &str = "target/exercise.bin";
-/// The bytes that the program reads at a time, at most.
+/// The bytes that a program reads at a time, at most.
 const PAGE: usize = 4096;
+/// How many lines each program's help has.
+const HELP_LINES: usize = 15;
 const SIGPIPE: i32 = 13;
+
+#[derive(Clone, Copy)]
+enum Program {
+    Lesson,
+    Clean,
+}
+
+impl Program {
+    fn name(self) -> &'static str {
+        match self {
+            Program::Lesson => "lesson",
+            Program::Clean => "clean",
+        }
+    }
+
+    fn path(self) -> String {
+        format!("target/bin/{}", self.name())
+    }
+
+    /// What it gives for an exercise file.
+    fn given(self, file: &[u8]) -> Given {
+        match self {
+            Program::Lesson => Given::listing(file),
+            Program::Clean => Given::clean(file),
+        }
+    }
+
+    fn parts(self) -> Parts {
+        match self {
+            Program::Lesson => Parts::Lines,
+            Program::Clean => Parts::Words,
+        }
+    }
+}
 
 // ---------------------------------------------------------------- Cases
 
@@ -33,16 +70,18 @@ pub enum Kind {
     File,
     Pipe,
     Live,
+    Clean,
 }
 
 /// Each kind's name, and how many cases of it are a run.
-const KINDS: [(Kind, &str, u32); 6] = [
+const KINDS: [(Kind, &str, u32); 7] = [
     (Kind::Short, "short", 5),
     (Kind::Failing, "failing", 10),
     (Kind::Pages, "pages", 2),
     (Kind::File, "file", 500),
     (Kind::Pipe, "pipe", 300),
     (Kind::Live, "live", 300),
+    (Kind::Clean, "clean", 200),
 ];
 
 impl Kind {
@@ -55,7 +94,7 @@ impl Kind {
     }
 }
 
-/// All cases: true when model and program agree everywhere.
+/// All cases: true when model and programs agree everywhere.
 pub fn run(seed: u64) -> bool {
     let mut tally = Tally::default();
     let mut seeds = Random::new(seed);
@@ -63,7 +102,7 @@ pub fn run(seed: u64) -> bool {
         for _ in 0..cases {
             let case_seed = seeds.next();
             if let Err(difference) = run_case(kind, case_seed, &mut tally, false) {
-                println!("DIFFERENCE after {} runs of the program", tally.runs);
+                println!("DIFFERENCE after {} runs of the programs", tally.runs);
                 difference.print(kind, case_seed);
                 return false;
             }
@@ -73,7 +112,7 @@ pub fn run(seed: u64) -> bool {
     true
 }
 
-/// One case again, with every run of the program shown: true when model and program agree in it.
+/// One case again, with every run of the programs shown: true when model and programs agree in it.
 pub fn replay(kind: Kind, seed: u64) -> bool {
     match run_case(kind, seed, &mut Tally::default(), true) {
         Ok(()) => {
@@ -89,25 +128,28 @@ pub fn replay(kind: Kind, seed: u64) -> bool {
 }
 
 fn run_case(kind: Kind, seed: u64, tally: &mut Tally, shown: bool) -> Result<(), Difference> {
-    let random = &mut Random::new(seed);
-    let bench = &mut Bench { tally, shown };
-    match kind {
-        Kind::Short => short_case(bench, random),
-        Kind::Failing => failing_case(bench, random),
-        Kind::Pages => pages_case(bench, random),
-        Kind::File => file_case(bench, random),
-        Kind::Pipe => pipe_case(bench, random),
-        Kind::Live => live_case(bench, random),
+    let case = match kind {
+        Kind::Short => short_case,
+        Kind::Failing => failing_case,
+        Kind::Pages => pages_case,
+        Kind::File => file_case,
+        Kind::Pipe => pipe_case,
+        Kind::Live => live_case,
+        Kind::Clean => clean_case,
+    };
+    for program in [Program::Lesson, Program::Clean] {
+        case(&mut Bench { program, tally, shown }, &mut Random::new(seed))?;
     }
+    Ok(())
 }
 
 /// Each length of up to three words, by each way in.
 fn short_case(bench: &mut Bench, random: &mut Random) -> Result<(), Difference> {
     for length in 0..=12 {
-        let exercise = Exercise::of(any_file(random, length));
-        bench.list_file(random, &exercise)?;
-        bench.list_pieces(random, &exercise)?;
-        bench.list_live(random, &exercise)?;
+        let exercise = bench.exercise(any_file(random, length));
+        bench.take_file(random, &exercise)?;
+        bench.take_pieces(random, &exercise)?;
+        bench.take_live(random, &exercise)?;
     }
     Ok(())
 }
@@ -117,7 +159,8 @@ fn pages_case(bench: &mut Bench, random: &mut Random) -> Result<(), Difference> 
     let file = good_file(random, 24 * PAGE);
     for pages in [1, 2, 3, 4, 5, 16, 22, 23] {
         for length in pages * PAGE - 9..=pages * PAGE + 13 {
-            bench.list_file(random, &Exercise::of(file[..length].to_vec()))?;
+            let exercise = bench.exercise(file[..length].to_vec());
+            bench.take_file(random, &exercise)?;
         }
     }
     Ok(())
@@ -126,41 +169,56 @@ fn pages_case(bench: &mut Bench, random: &mut Random) -> Result<(), Difference> 
 /// A file of any length up to 100,000 words.
 fn file_case(bench: &mut Bench, random: &mut Random) -> Result<(), Difference> {
     let widest = random.pick(&[400, 4000, 40_000, 40_000, 100_000, 400_004]);
-    let exercise = Exercise::any(random, widest);
-    bench.list_file(random, &exercise)
+    let exercise = bench.any_exercise(random, widest);
+    bench.take_file(random, &exercise)
 }
 
-/// A file by a pipe, in pieces that do not wait for the text.
+/// A file by a pipe, in pieces that do not wait for the output.
 fn pipe_case(bench: &mut Bench, random: &mut Random) -> Result<(), Difference> {
     let widest = random.pick(&[400, 4000, 40_000, 200_000]);
-    let exercise = Exercise::any(random, widest);
-    bench.list_pieces(random, &exercise)
+    let exercise = bench.any_exercise(random, widest);
+    bench.take_pieces(random, &exercise)
 }
 
-/// A file by a pipe, each piece after the text that was due before it.
+/// A file by a pipe, each piece after the output that was due before it.
 fn live_case(bench: &mut Bench, random: &mut Random) -> Result<(), Difference> {
     let widest = random.pick(&[400, 4000, 40_000]);
-    let exercise = Exercise::any(random, widest);
-    bench.list_live(random, &exercise)
+    let exercise = bench.any_exercise(random, widest);
+    bench.take_live(random, &exercise)
+}
+
+/// A clean file: `lesson` lists it with no refusal and ends in the figures that the file itself ends in, `clean` leaves
+/// it as it is.
+fn clean_case(bench: &mut Bench, random: &mut Random) -> Result<(), Difference> {
+    let widest = random.pick(&[400, 4000, 40_000, 100_000]);
+    let length = 4 + some_length(random, widest);
+    let exercise = bench.exercise(good_file(random, length));
+    bench.take_file(random, &exercise)?;
+    let clean = Given::clean(&exercise.file).output;
+    let output = match bench.program {
+        Program::Lesson => Output::Unrefused(last_figures(&exercise.given.output)),
+        Program::Clean => Output::Bytes(&clean),
+    };
+    keep(&clean);
+    bench.run(bench.call(&[]).input(FILE), Due { output, errors: Errors::Nothing, signal: None })
 }
 
 /// Reads and writes that fail, help and usage.
 fn failing_case(bench: &mut Bench, random: &mut Random) -> Result<(), Difference> {
-    let short = Exercise::any(random, 4000);
+    let short = bench.any_exercise(random, 4000);
     let length = some_length(random, 8000);
-    let middling = Exercise::of(good_file(random, length));
-    let length = 100_000 + some_length(random, 100_000);
-    let long = Exercise::of(good_file(random, length));
+    let middling = bench.exercise(good_file(random, length));
+    let long = bench.exercise(long_file(random));
     for exercise in [&short, &long] {
-        exercise.keep();
-        failed_outputs(bench)?;
-        bench.list_with_input_closed(exercise)?;
+        keep(&exercise.file);
+        failed_outputs(bench, exercise)?;
+        bench.take_with_input_closed(exercise)?;
         bench.leave_at_once(exercise)?;
     }
     failed_inputs(bench)?;
     bench.reset_input(&middling)?;
     bench.fill_output(&long)?;
-    bench.leave_midway(&long, 1 + u64::from(random.below(5000)))?;
+    bench.leave_midway(&long, 1 + random.below(5000) as usize)?;
     help(bench)?;
     usage(bench)
 }
@@ -169,37 +227,38 @@ fn failing_case(bench: &mut Bench, random: &mut Random) -> Result<(), Difference
 fn failed_inputs(bench: &mut Bench) -> Result<(), Difference> {
     let missing: [&[u8]; 5] = [b"none", b"target/no exercise", "n\u{e4}her".as_bytes(), b"\xFF", &[b'x'; 255]];
     for name in missing {
-        let told = [b"lesson: ", name, b": No such file or directory\n"].concat();
-        bench.run(Call::new(&[name]), Due::told(Errors::Line(told)))?;
+        let told = bench.told(&[name, b": No such file or directory\n"].concat());
+        bench.run(bench.call(&[name]), Due::told(told))?;
     }
     for name in [".", "target", "/"] {
-        let told = format!("lesson: {name}: Is a directory\n").into_bytes();
-        bench.run(Call::new(&[name.as_bytes()]), Due::told(Errors::Line(told)))?;
-        bench.run(Call::new(&[]).input(name), Due::told(Errors::line("lesson: standard input: Is a directory\n")))?;
-        let call = Call::new(&[]).input(name).full_output();
-        bench.run(call, Due::told(Errors::line("lesson: standard input: Is a directory\n")))?;
+        let told = bench.told(format!("{name}: Is a directory\n").as_bytes());
+        bench.run(bench.call(&[name.as_bytes()]), Due::told(told))?;
+        let told = bench.told(b"standard input: Is a directory\n");
+        bench.run(bench.call(&[]).input(name), Due::told(told.clone()))?;
+        bench.run(bench.call(&[]).input(name).full_output(), Due::told(told))?;
     }
     let inside = format!("{FILE}/inside");
-    let told = Errors::LineFrom(format!("lesson: {inside}: "));
-    bench.run(Call::new(&[inside.as_bytes()]), Due::told(told))?;
-    let told = Errors::LineFrom(String::from("lesson: standard input: "));
-    bench.run(Call::closing("<&-", &[]), Due::told(told))
+    let told = bench.told_more(&format!("{inside}: "));
+    bench.run(bench.call(&[inside.as_bytes()]), Due::told(told))?;
+    let told = bench.told_more("standard input: ");
+    bench.run(bench.call_closing("<&-", &[]), Due::told(told))
 }
 
-/// An output with no room, and one that is closed.
-fn failed_outputs(bench: &mut Bench) -> Result<(), Difference> {
-    let full = || Due::told(Errors::line("lesson: standard output: No space left on device\n"));
-    bench.run(Call::new(&[]).input(FILE).full_output(), full())?;
-    bench.run(Call::new(&[FILE.as_bytes()]).full_output(), full())?;
-    bench.run(Call::new(&[b"--help"]).full_output(), full())?;
-    let closed = || Due::told(Errors::line("lesson: standard output: Bad file descriptor\n"));
-    bench.run(Call::closing(">&-", &[]).input(FILE), closed())?;
-    bench.run(Call::closing(">&-", &[FILE]), closed())
+/// An output with no room, and one that is closed: both are told where there is something to write.
+fn failed_outputs(bench: &mut Bench, exercise: &Exercise) -> Result<(), Difference> {
+    let due = |told: Errors| if exercise.given.output.is_empty() { exercise.taken() } else { Due::told(told) };
+    let full = bench.told(b"standard output: No space left on device\n");
+    let closed = bench.told(b"standard output: Bad file descriptor\n");
+    bench.run(bench.call(&[]).input(FILE).full_output(), due(full.clone()))?;
+    bench.run(bench.call(&[FILE.as_bytes()]).full_output(), due(full.clone()))?;
+    bench.run(bench.call(&[b"--help"]).full_output(), Due::told(full))?;
+    bench.run(bench.call_closing(">&-", &[]).input(FILE), due(closed.clone()))?;
+    bench.run(bench.call_closing(">&-", &[FILE]), due(closed))
 }
 
 fn help(bench: &mut Bench) -> Result<(), Difference> {
-    let due = Due { output: Output::Lines(15), errors: Errors::Nothing, signal: None };
-    bench.run(Call::new(&[b"--help"]).input(FILE), due)
+    let due = Due { output: Output::Lines(HELP_LINES), errors: Errors::Nothing, signal: None };
+    bench.run(bench.call(&[b"--help"]).input(FILE), due)
 }
 
 /// Every other use: one argument that starts with `-`, or more than one.
@@ -217,39 +276,39 @@ fn usage(bench: &mut Bench) -> Result<(), Difference> {
         &[b"none", b"none"],
         &[FILE.as_bytes(), b"", b"none"],
     ];
+    let name = bench.program.name();
+    let told = format!("usage: {name} [FILE] ({name} --help says more)\n").into_bytes();
     for arguments in uses {
-        let told = Errors::LineFrom(String::from("usage: lesson"));
-        bench.run(Call::new(arguments).input(FILE), Due::told(told))?;
+        bench.run(bench.call(arguments).input(FILE), Due::told(Errors::Line(told.clone())))?;
     }
     Ok(())
 }
 
 // ---------------------------------------------------------------- Exercise files
 
+/// An exercise file, and what the program under test gives for it.
 struct Exercise {
     file: Vec<u8>,
-    listing: Listing,
+    given: Given,
 }
 
 impl Exercise {
-    fn of(file: Vec<u8>) -> Exercise {
-        Exercise { listing: Listing::of(&file), file }
+    /// Has it a first word that is refused? Then the program reads no more.
+    fn has_bad_settings(&self) -> bool {
+        words_of(&self.file).first().is_some_and(|&settings| Car::start(settings).is_err())
     }
 
-    /// Any file of up to `widest` bytes.
-    fn any(random: &mut Random, widest: u32) -> Exercise {
-        let length = some_length(random, widest);
-        Exercise::of(any_file(random, length))
+    /// All that is given, and nothing else.
+    fn taken(&self) -> Due<'_> {
+        let told = self.given.errors().into_bytes();
+        let errors = if told.is_empty() { Errors::Nothing } else { Errors::Line(told) };
+        Due { output: Output::Bytes(&self.given.output), errors, signal: None }
     }
+}
 
-    /// Makes it the file of the runs to come.
-    fn keep(&self) {
-        fs::write(FILE, &self.file).unwrap_or_else(|error| panic!("{FILE}: {error}"));
-    }
-
-    fn listed(&self) -> Due<'_> {
-        Due { output: Output::Text(&self.listing.text), errors: Errors::Nothing, signal: None }
-    }
+/// Makes it the file of the runs to come.
+fn keep(file: &[u8]) {
+    fs::write(FILE, file).unwrap_or_else(|error| panic!("{FILE}: {error}"));
 }
 
 /// Any length up to `widest`, or one near a whole page.
@@ -264,52 +323,29 @@ fn some_length(random: &mut Random, widest: u32) -> usize {
 
 /// A file of this many bytes, which may end inside a word; its settings word is now and then a bad one.
 fn any_file(random: &mut Random, length: usize) -> Vec<u8> {
-    let settings = if random.once_in(4) { random::settings_word(random) } else { good_settings(random) };
+    let settings = if random.once_in(4) { random::settings_word(random) } else { random::good_settings(random) };
     file_from(random, settings, length)
 }
 
 fn good_file(random: &mut Random, length: usize) -> Vec<u8> {
-    let settings = good_settings(random);
+    let settings = random::good_settings(random);
     file_from(random, settings, length)
-}
-
-fn good_settings(random: &mut Random) -> u32 {
-    0xD000_0000 | random.pick(&[1, 2, 5, 6])
 }
 
 fn file_from(random: &mut Random, settings: u32, length: usize) -> Vec<u8> {
     let car = Car::start(settings).unwrap_or_else(|_| random::fresh_car(random));
-    let mut words = vec![settings];
-    words.extend(event_words(random, car, length / 4));
-    let mut bytes: Vec<u8> = words.iter().flat_map(|word| word.to_le_bytes()).collect();
+    let words = random::event_words(random, car, length / 4);
+    let mut bytes = bytes_of(&[&[settings], &words[..]].concat());
     bytes.truncate(length);
     bytes
 }
 
-/// Runs of words, each a walk, ticks, noise or random words.
-fn event_words(random: &mut Random, mut car: Car, count: usize) -> Vec<u32> {
-    let mut words = Vec::with_capacity(count);
-    while words.len() < count {
-        let widest = random.pick(&[10, 300, 3000, 30_000]);
-        let length = (1 + random.below(widest) as usize).min(count - words.len());
-        let run = run_of_words(random, car, length);
-        car = run.iter().fold(car, |car, &word| car.drive(word).unwrap_or(car));
-        words.extend(run);
-    }
-    words
-}
-
-fn run_of_words(random: &mut Random, car: Car, length: usize) -> Vec<u32> {
-    match random.below(8) {
-        0 => (0..length).map(|_| random.word()).collect(),
-        1 => (0..length).map(|_| random::noise_word(random)).collect(),
-        2 => vec![0xA000_0000 | u32::from(car.ready); length],
-        3 => random::lesson_words(random, &mut Driver::with_noise(0), car, length),
-        _ => {
-            let mut driver = Driver::new(random);
-            random::lesson_words(random, &mut driver, car, length)
-        }
-    }
+/// A file of accepted words alone, for which every program gives more than a pipe or a socket holds.
+fn long_file(random: &mut Random) -> Vec<u8> {
+    let settings = random::good_settings(random);
+    let car = Car::start(settings).expect("good settings");
+    let count = 100_000 + random.below(20_000) as usize;
+    bytes_of(&[&[settings], &random::accepted_words(random, car, count)[..]].concat())
 }
 
 /// A file in pieces of odd sizes, of 1 to 5,000 bytes; many are small or near a page.
@@ -334,7 +370,7 @@ fn pieces<'a>(random: &mut Random, mut file: &'a [u8]) -> Vec<&'a [u8]> {
 
 // ---------------------------------------------------------------- Calls, and what is due from them
 
-/// A call of the program and how it is shown.
+/// A call of a program and how it is shown.
 struct Call {
     command: Command,
     text: String,
@@ -342,20 +378,7 @@ struct Call {
 
 impl Call {
     /// With nothing to read, and an output that is taken here.
-    fn new(arguments: &[&[u8]]) -> Call {
-        let mut command = Command::new(PROGRAM);
-        command.args(arguments.iter().map(|argument| OsStr::from_bytes(argument)));
-        Call::shown(command)
-    }
-
-    /// With one of its files closed by the shell.
-    fn closing(redirection: &str, arguments: &[&str]) -> Call {
-        let mut command = Command::new("sh");
-        command.args(["-c", &format!("exec \"$0\" \"$@\" {redirection}"), PROGRAM]).args(arguments);
-        Call::shown(command)
-    }
-
-    fn shown(mut command: Command) -> Call {
+    fn new(mut command: Command) -> Call {
         command.stdin(Stdio::null()).stdout(Stdio::piped());
         Call { text: format!("{command:?}"), command }
     }
@@ -392,14 +415,17 @@ struct Due<'a> {
 
 /// On standard output.
 enum Output<'a> {
-    Text(&'a str),
-    /// The front of this text, and not all of it.
-    Front(&'a str),
+    Bytes(&'a [u8]),
+    /// The front of these bytes, and not all of them.
+    Front(&'a [u8]),
     /// So many lines.
     Lines(usize),
+    /// A listing with no refusal that ends in these figures.
+    Unrefused(Option<String>),
 }
 
 /// On standard error.
+#[derive(Clone)]
 enum Errors {
     Nothing,
     Line(Vec<u8>),
@@ -410,11 +436,16 @@ enum Errors {
 impl Due<'_> {
     /// Nothing but a line on standard error.
     fn told(errors: Errors) -> Due<'static> {
-        Due { output: Output::Text(""), errors, signal: None }
+        Due { output: Output::Bytes(&[]), errors, signal: None }
+    }
+
+    /// These bytes until the reader went away.
+    fn left(bytes: &[u8]) -> Due<'_> {
+        Due { output: Output::Bytes(bytes), errors: Errors::Nothing, signal: Some(SIGPIPE) }
     }
 
     /// The first that differs: what is due and what the program left.
-    fn difference(&self, left: &Left) -> Option<(String, String)> {
+    fn difference(&self, left: &Left, parts: Parts) -> Option<(String, String)> {
         if !left.in_time {
             return Some((String::from("ends"), format!("still under way after {LIMIT:?}, {}", so_far(left))));
         }
@@ -422,7 +453,7 @@ impl Due<'_> {
             let told = format!("{}, {}", quoted(&left.errors), so_far(left));
             return Some((self.errors.shown(), format!("on standard error {told}")));
         }
-        self.output.difference(&left.output).or_else(|| {
+        self.output.difference(&left.output, parts).or_else(|| {
             let ends = (left.status.signal(), left.status.code());
             let due = (self.signal, if self.signal.is_none() { Some(0) } else { None });
             (ends != due).then(|| (format!("signal and status {due:?}"), format!("signal and status {ends:?}")))
@@ -431,24 +462,37 @@ impl Due<'_> {
 }
 
 impl Output<'_> {
-    fn difference(&self, found: &[u8]) -> Option<(String, String)> {
-        match *self {
-            Output::Text(text) => first_difference(text.as_bytes(), found),
-            Output::Front(text) if found.len() < text.len() => first_difference(&text.as_bytes()[..found.len()], found),
-            Output::Front(text) => Some((format!("less than {} bytes", text.len()), format!("{} bytes", found.len()))),
+    fn difference(&self, found: &[u8], parts: Parts) -> Option<(String, String)> {
+        match self {
+            Output::Bytes(bytes) => first_difference(parts, bytes, found),
+            Output::Front(bytes) if found.len() < bytes.len() => first_difference(parts, &bytes[..found.len()], found),
+            Output::Front(bytes) => {
+                Some((format!("less than {} bytes", bytes.len()), format!("{} bytes", found.len())))
+            }
             Output::Lines(count) => {
-                let whole = found.ends_with(b"\n") && lines(found) == count;
+                let whole = found.ends_with(b"\n") && lines(found) == *count;
                 (!whole).then(|| (format!("{count} lines"), format!("{} lines: {}", lines(found), quoted(found))))
+            }
+            Output::Unrefused(figures) => {
+                let refused = String::from_utf8_lossy(found).lines().find(|line| is_refused(line)).map(String::from);
+                let ends = last_figures(found);
+                (refused.is_some() || ends != *figures).then(|| {
+                    (format!("no refusal, at the end {figures:?}"), format!("refused {refused:?}, at the end {ends:?}"))
+                })
             }
         }
     }
 }
 
-impl Errors {
-    fn line(text: &str) -> Errors {
-        Errors::Line(text.into())
-    }
+/// The figures in which a listing ends: those of its last event, a fresh car's where it has none.
+fn last_figures(listing: &[u8]) -> Option<String> {
+    let listing = String::from_utf8_lossy(listing);
+    let mut lines = listing.lines().filter(|line| !line.starts_with("refused"));
+    lines.next()?;
+    lines.last().map_or(Some("0 0 0 0 0"), |line| line.splitn(3, ' ').nth(2)).map(String::from)
+}
 
+impl Errors {
     fn fit(&self, found: &[u8]) -> bool {
         match self {
             Errors::Nothing => found.is_empty(),
@@ -484,21 +528,14 @@ fn so_far(left: &Left) -> String {
     format!("{} bytes on standard output", left.output.len())
 }
 
-/// The first line in which two texts differ, as it is in each of them.
-fn first_difference(due: &[u8], found: &[u8]) -> Option<(String, String)> {
-    if due == found {
-        return None;
-    }
-    let same = due.iter().zip(found).take_while(|(due, found)| due == found).count();
-    let start = due[..same].iter().rposition(|&byte| byte == b'\n').map_or(0, |end| end + 1);
-    let shown = |text: &[u8]| {
-        let line = text[start..].split_inclusive(|&byte| byte == b'\n').next().unwrap_or_default();
-        format!("output line {} of {} bytes: {}", lines(&due[..same]) + 1, text.len(), quoted(line))
-    };
-    Some((shown(due), shown(found)))
+/// The first part in which two outputs differ, as it is in each of them.
+fn first_difference(parts: Parts, due: &[u8], found: &[u8]) -> Option<(String, String)> {
+    let (place, [model, program]) = parts.difference(due, found)?;
+    let shown = |output: &[u8], part| format!("output {place} of {} bytes: {part}", output.len());
+    Some((shown(due, model), shown(found, program)))
 }
 
-// ---------------------------------------------------------------- Runs of the program
+// ---------------------------------------------------------------- Runs of the programs
 
 /// The first place where model and program differ.
 struct Difference {
@@ -518,8 +555,9 @@ impl Difference {
     }
 }
 
-/// Where the program runs and runs are counted, and shown when a case is replayed.
+/// Where a program runs and runs are counted, and shown when a case is replayed.
 struct Bench<'a> {
+    program: Program,
     tally: &'a mut Tally,
     shown: bool,
 }
@@ -528,6 +566,40 @@ struct Bench<'a> {
 const ALL: u64 = u64::MAX;
 
 impl Bench<'_> {
+    fn call(&self, arguments: &[&[u8]]) -> Call {
+        let mut command = Command::new(self.program.path());
+        command.args(arguments.iter().map(|argument| OsStr::from_bytes(argument)));
+        Call::new(command)
+    }
+
+    /// With one of its files closed by the shell.
+    fn call_closing(&self, redirection: &str, arguments: &[&str]) -> Call {
+        let mut command = Command::new("sh");
+        let script = format!("exec \"$0\" \"$@\" {redirection}");
+        command.args(["-c", &script, &self.program.path()]).args(arguments);
+        Call::new(command)
+    }
+
+    /// A line on standard error behind the program's name.
+    fn told(&self, text: &[u8]) -> Errors {
+        Errors::Line([self.program.name().as_bytes(), b": ", text].concat())
+    }
+
+    /// One that starts with this and says more.
+    fn told_more(&self, start: &str) -> Errors {
+        Errors::LineFrom(format!("{}: {start}", self.program.name()))
+    }
+
+    fn exercise(&self, file: Vec<u8>) -> Exercise {
+        Exercise { given: self.program.given(&file), file }
+    }
+
+    /// Any file of up to `widest` bytes.
+    fn any_exercise(&self, random: &mut Random, widest: u32) -> Exercise {
+        let length = some_length(random, widest);
+        self.exercise(any_file(random, length))
+    }
+
     fn run(&mut self, call: Call, due: Due) -> Result<(), Difference> {
         self.judge(&call.text, Session::start(call.command, ALL).finish(), due)
     }
@@ -538,20 +610,20 @@ impl Bench<'_> {
         if self.shown {
             println!("{call}\n  leaves {} and on standard error {}", so_far(&left), quoted(&left.errors));
         }
-        match due.difference(&left) {
+        match due.difference(&left, self.program.parts()) {
             None => Ok(()),
             Some((model, program)) => Err(Difference { call: call.to_string(), model, program }),
         }
     }
 
     /// By standard input, and by the file's name, now and then a long one.
-    fn list_file(&mut self, random: &mut Random, exercise: &Exercise) -> Result<(), Difference> {
-        exercise.keep();
-        self.tally.events += 2 * exercise.listing.events() as u64;
-        self.run(Call::new(&[]).input(FILE), exercise.listed())?;
+    fn take_file(&mut self, random: &mut Random, exercise: &Exercise) -> Result<(), Difference> {
+        keep(&exercise.file);
+        self.tally.events += 2 * exercise.given.events() as u64;
+        self.run(self.call(&[]).input(FILE), exercise.taken())?;
         let detour = if random.once_in(20) { random.below(1900) } else { 0 };
         let name = "./".repeat(detour as usize) + FILE;
-        self.run(Call::new(&[name.as_bytes()]), exercise.listed())
+        self.run(self.call(&[name.as_bytes()]), exercise.taken())
     }
 
     /// The pieces of a run, their sizes shown in a replay.
@@ -563,11 +635,11 @@ impl Bench<'_> {
         pieces
     }
 
-    /// In pieces, some after a pause; none waits for the text.
-    fn list_pieces(&mut self, random: &mut Random, exercise: &Exercise) -> Result<(), Difference> {
-        exercise.keep();
-        self.tally.events += exercise.listing.events() as u64;
-        let call = Call::new(&[]).pipe();
+    /// In pieces, some after a pause; none waits for the output.
+    fn take_pieces(&mut self, random: &mut Random, exercise: &Exercise) -> Result<(), Difference> {
+        keep(&exercise.file);
+        self.tally.events += exercise.given.events() as u64;
+        let call = self.call(&[]).pipe();
         let session = Session::start(call.command, ALL);
         for piece in self.pieces(random, exercise) {
             session.send(piece);
@@ -575,85 +647,86 @@ impl Bench<'_> {
                 thread::sleep(Duration::from_micros(random.below(200).into()));
             }
         }
-        self.judge(&format!("{}, {FILE} in pieces", call.text), session.finish(), exercise.listed())
+        self.judge(&format!("{}, {FILE} in pieces", call.text), session.finish(), exercise.taken())
     }
 
-    /// In pieces, and after each of them exactly the text that is due by then.
-    fn list_live(&mut self, random: &mut Random, exercise: &Exercise) -> Result<(), Difference> {
-        exercise.keep();
-        self.tally.events += exercise.listing.events() as u64;
-        let call = Call::new(&[]).pipe();
+    /// In pieces, and after each of them exactly the output that is due by then.
+    fn take_live(&mut self, random: &mut Random, exercise: &Exercise) -> Result<(), Difference> {
+        keep(&exercise.file);
+        self.tally.events += exercise.given.events() as u64;
+        let call = self.call(&[]).pipe();
         let mut session = Session::start(call.command, ALL);
         let mut come = 0;
         for piece in self.pieces(random, exercise) {
             session.send(piece);
             come += piece.len();
             self.tally.pieces += 1;
-            let due = exercise.listing.due(come).as_bytes();
+            let due = exercise.given.due(come);
             let nothing_more = if session.output.reach(due.len()) { "" } else { ", then nothing more" };
-            if let Some((model, program)) = first_difference(due, &session.output.text) {
+            if let Some((model, program)) = first_difference(self.program.parts(), due, &session.output.text) {
                 let call = format!("{}, {come} bytes of {FILE}, the last {} in one piece", call.text, piece.len());
                 return Err(Difference { call, model, program: program + nothing_more });
             }
         }
-        self.judge(&format!("{}, {FILE} live", call.text), session.finish(), exercise.listed())
+        if exercise.has_bad_settings() && !session.output.reach_end() {
+            let call = format!("{}, {FILE} live, and its end awaited", call.text);
+            let [model, program] = ["ends at the settings word", "reads on"].map(String::from);
+            return Err(Difference { call, model, program });
+        }
+        self.judge(&format!("{}, {FILE} live", call.text), session.finish(), exercise.taken())
     }
 
     /// The file by its name while standard input is closed, so that the file takes its number.
-    fn list_with_input_closed(&mut self, exercise: &Exercise) -> Result<(), Difference> {
-        self.tally.events += exercise.listing.events() as u64;
-        self.run(Call::closing("<&-", &[FILE]), exercise.listed())
+    fn take_with_input_closed(&mut self, exercise: &Exercise) -> Result<(), Difference> {
+        self.tally.events += exercise.given.events() as u64;
+        self.run(self.call_closing("<&-", &[FILE]), exercise.taken())
     }
 
-    /// The reader is gone before the program can write.
+    /// The reader is gone before the program can write, if it has something to write.
     fn leave_at_once(&mut self, exercise: &Exercise) -> Result<(), Difference> {
-        let call = Call::new(&[]).pipe().note(", its reader gone");
+        let call = self.call(&[]).pipe().note(", its reader gone");
         let mut session = Session::start(call.command, 0);
         session.output.reach_end();
         session.send(&exercise.file);
-        let due = Due { output: Output::Text(""), errors: Errors::Nothing, signal: Some(SIGPIPE) };
+        let due = if exercise.given.output.is_empty() { exercise.taken() } else { Due::left(&[]) };
         self.judge(&call.text, session.finish(), due)
     }
 
-    /// The reader goes away after so many bytes of a text that no pipe holds.
-    fn leave_midway(&mut self, exercise: &Exercise, reads: u64) -> Result<(), Difference> {
-        exercise.keep();
-        let call = Call::new(&[FILE.as_bytes()]).note(&format!(", its reader gone after {reads} bytes"));
-        let session = Session::start(call.command, reads);
-        let text = &exercise.listing.text[..reads as usize];
-        let due = Due { output: Output::Text(text), errors: Errors::Nothing, signal: Some(SIGPIPE) };
-        self.judge(&call.text, session.finish(), due)
+    /// The reader goes away after so many bytes of an output that no pipe holds.
+    fn leave_midway(&mut self, exercise: &Exercise, reads: usize) -> Result<(), Difference> {
+        keep(&exercise.file);
+        let call = self.call(&[FILE.as_bytes()]).note(&format!(", its reader gone after {reads} bytes"));
+        let session = Session::start(call.command, reads as u64);
+        self.judge(&call.text, session.finish(), Due::left(&exercise.given.output[..reads]))
     }
 
     /// An output that takes the first pages and then no more: a socket that does not wait, which nobody reads.
     fn fill_output(&mut self, exercise: &Exercise) -> Result<(), Difference> {
-        exercise.keep();
+        keep(&exercise.file);
         let (mut ours, theirs) = UnixStream::pair().expect("a pair of sockets");
         theirs.set_nonblocking(true).expect("a socket that does not wait");
-        let mut call = Call::new(&[FILE.as_bytes()]).note(", its output a socket that fills");
+        let mut call = self.call(&[FILE.as_bytes()]).note(", its output a socket that fills");
         call.command.stdout(OwnedFd::from(theirs));
         let mut left = Session::start(call.command, ALL).finish();
         ours.read_to_end(&mut left.output).expect("what the program wrote");
-        let told = Errors::LineFrom(String::from("lesson: standard output: "));
-        let due = Due { output: Output::Front(&exercise.listing.text), errors: told, signal: None };
-        self.judge(&call.text, left, due)
+        let errors = self.told_more("standard output: ");
+        self.judge(&call.text, left, Due { output: Output::Front(&exercise.given.output), errors, signal: None })
     }
 
     /// An input that fails after the file's bytes: a socket whose other end is closed with a byte unread.
     fn reset_input(&mut self, exercise: &Exercise) -> Result<(), Difference> {
-        exercise.keep();
+        keep(&exercise.file);
         let (mut ours, mut theirs) = UnixStream::pair().expect("a pair of sockets");
         theirs.write_all(b"!").expect("room for a byte");
-        let mut call = Call::new(&[]).note(&format!(", its input a socket that fails after {FILE}"));
+        let mut call = self.call(&[]).note(&format!(", its input a socket that fails after {FILE}"));
         call.command.stdin(OwnedFd::from(theirs));
         let mut session = Session::start(call.command, ALL);
         ours.write_all(&exercise.file).expect("room for a short file");
-        let text = exercise.listing.due(exercise.file.len());
-        session.output.reach(text.len());
+        let due = exercise.given.due(exercise.file.len());
+        session.output.reach(due.len());
         drop(ours);
-        let told = Errors::LineFrom(String::from("lesson: standard input: "));
-        let due = Due { output: Output::Text(text), errors: told, signal: None };
-        self.judge(&call.text, session.finish(), due)
+        let errors = self.told_more("standard input: ");
+        self.judge(&call.text, session.finish(), Due { output: Output::Bytes(due), errors, signal: None })
     }
 }
 
@@ -662,9 +735,9 @@ impl Bench<'_> {
 #[derive(Default)]
 struct Tally {
     runs: u64,
-    /// Lines of events in the listings.
+    /// Events in the files.
     events: u64,
-    /// Pieces after which the text was awaited.
+    /// Pieces after which the output was awaited.
     pieces: u64,
     /// Lines on standard error.
     lines_told: u64,
@@ -673,7 +746,7 @@ struct Tally {
 impl Tally {
     fn print(&self, seed: u64) {
         println!(
-            "no difference in {} runs of the program, seed {seed}: {} events listed, {} pieces awaited, {} lines told",
+            "no difference in {} runs of the programs, seed {seed}: {} events, {} pieces awaited, {} lines told",
             self.runs, self.events, self.pieces, self.lines_told
         );
     }

@@ -227,6 +227,50 @@ pub fn lesson_words(random: &mut Random, driver: &mut Driver, mut car: Car, coun
     words
 }
 
+/// `count` accepted words from this car.
+pub fn accepted_words(random: &mut Random, mut car: Car, count: usize) -> Vec<u32> {
+    let mut driver = Driver::with_noise(0);
+    let mut words = Vec::with_capacity(count);
+    while words.len() < count {
+        let word = driver.word(random, &car);
+        if let Ok(next) = car.drive(word) {
+            car = next;
+            words.push(word);
+        }
+    }
+    words
+}
+
+/// Runs of words, each a walk, ticks, noise or random words.
+pub fn event_words(random: &mut Random, mut car: Car, count: usize) -> Vec<u32> {
+    let mut words = Vec::with_capacity(count);
+    while words.len() < count {
+        let widest = random.pick(&[10, 300, 3000, 30_000]);
+        let length = (1 + random.below(widest) as usize).min(count - words.len());
+        let run = run_of_words(random, car, length);
+        car = run.iter().fold(car, |car, &word| car.drive(word).unwrap_or(car));
+        words.extend(run);
+    }
+    words
+}
+
+fn run_of_words(random: &mut Random, car: Car, length: usize) -> Vec<u32> {
+    match random.below(8) {
+        0 => (0..length).map(|_| random.word()).collect(),
+        1 => (0..length).map(|_| noise_word(random)).collect(),
+        2 => vec![word(10, i32::from(car.ready)); length],
+        3 => lesson_words(random, &mut Driver::with_noise(0), car, length),
+        _ => {
+            let mut driver = Driver::new(random);
+            lesson_words(random, &mut driver, car, length)
+        }
+    }
+}
+
+pub fn good_settings(random: &mut Random) -> u32 {
+    word(13, random.pick(&[1, 2, 5, 6]))
+}
+
 /// A word with bits 0-2 and the kind of a settings word, one or two bits from it, or any word.
 pub fn settings_word(random: &mut Random) -> u32 {
     let settings = word(13, random.between(0, 7));

@@ -14,11 +14,29 @@ const RUNS: usize = 15;
 /// 1,000,000 words in lessons, each from its own record, so that no clock ends too soon.
 struct Workload {
     name: &'static str,
-    lessons: Vec<([u32; 12], Vec<u32>)>,
+    lessons: Vec<Lesson>,
+}
+
+struct Lesson {
+    record: [u32; 12],
+    words: Vec<u32>,
+    /// How many of the words are accepted.
+    accepted: usize,
+}
+
+impl Lesson {
+    fn of((car, words): (Car, Vec<u32>)) -> Lesson {
+        Lesson { record: car.write(), accepted: car.accepted(&words).0.len(), words }
+    }
+
+    /// The settings word of its car.
+    fn settings(&self) -> u32 {
+        0xD000_0000 | self.record[0] & 7
+    }
 }
 
 /// One way to do the work on one lesson; gives a number made from all it did.
-type Way = fn(&[u32; 12], &[u32], &mut [u32]) -> u32;
+type Way = fn(&Lesson, &mut [u32]) -> u32;
 
 pub fn run(start: Instant) {
     print_first_answer(start);
@@ -41,6 +59,12 @@ pub fn run(start: Instant) {
     println!("\none record, ns per call, median of {RUNS} runs in turn: read and tested (cruise_test), and its figures (cruise_figures)");
     print_pairs("test", &workloads, &[("library", library_test), ("model", model_test)]);
     print_pairs("figures", &workloads, &[("library", library_figures), ("model", model_figures)]);
+    println!("\ncopies of lessons from a fresh car, ns per word, median of {RUNS} runs in turn");
+    println!(
+        "copy: cruise_copy with room for all words; exact: with room for the accepted alone; lesson: cruise_lesson"
+    );
+    let [mixed, accepted, ..] = workloads;
+    print_copies(&[mixed, accepted, workload("ticks", fresh_ticks), workload("random words", fresh_random)]);
 }
 
 /// One lesson of a workload by one way, for a tool that counts instructions while `counted` runs.
@@ -50,21 +74,25 @@ pub fn run_once(workload: &str, way: &str) -> Option<()> {
         "accepted" => accepted_walk,
         "ticks" => ticks_only,
         "random" => random_words,
+        "fresh-ticks" => fresh_ticks,
+        "fresh-random" => fresh_random,
         _ => return None,
     };
     let way: Way = match way {
         "library" => library_lesson,
         "tuned" => tuned_lesson,
+        "copy" => library_copy,
+        "exact" => library_exact_copy,
         _ => return None,
     };
-    let (car, words) = words(&mut Random::new(7));
-    println!("{:08X}", counted(way, &car.write(), &words, &mut [0; LESSON_WORDS]));
+    let lesson = Lesson::of(words(&mut Random::new(7)));
+    println!("{:08X}", counted(way, &lesson, &mut [0; LESSON_WORDS]));
     Some(())
 }
 
 #[inline(never)]
-fn counted(way: Way, record: &[u32; 12], words: &[u32], answers: &mut [u32]) -> u32 {
-    black_box(way(black_box(record), black_box(words), answers))
+fn counted(way: Way, lesson: &Lesson, answers: &mut [u32]) -> u32 {
+    black_box(way(black_box(lesson), answers))
 }
 
 /// From the start of main to the first answer word of a lesson; the loading of the program is not in it.
@@ -81,7 +109,7 @@ fn print_first_answer(start: Instant) {
 
 fn workload(name: &'static str, words: fn(&mut Random) -> (Car, Vec<u32>)) -> Workload {
     let mut random = Random::new(7);
-    let lessons = (0..LESSONS).map(|_| words(&mut random)).map(|(car, words)| (car.write(), words)).collect();
+    let lessons = (0..LESSONS).map(|_| Lesson::of(words(&mut random))).collect();
     Workload { name, lessons }
 }
 
@@ -92,18 +120,17 @@ fn mixed_walk(random: &mut Random) -> (Car, Vec<u32>) {
     (car, words)
 }
 
-/// The same sort of walk with refused words left out.
+/// The same sort of walk with refused words left out, but for the last.
 fn accepted_walk(random: &mut Random) -> (Car, Vec<u32>) {
-    let start = random::fresh_car(random);
-    let (mut car, mut driver, mut words) = (start, Driver::with_noise(0), Vec::new());
-    while words.len() < LESSON_WORDS {
-        let word = driver.word(random, &car);
-        if let Ok(next) = car.drive(word) {
-            car = next;
-            words.push(word);
-        }
-    }
-    (start, words)
+    let car = random::fresh_car(random);
+    let words = random::accepted_words(random, car, LESSON_WORDS);
+    (car, last_refused(words))
+}
+
+/// The words with a last one that is refused, so that room for the accepted ones is less than for all.
+fn last_refused(mut words: Vec<u32>) -> Vec<u32> {
+    words[LESSON_WORDS - 1] = 0;
+    words
 }
 
 /// Mode 2, cruise on behind a car, and accepted ticks alone; the radar stays ready.
@@ -119,32 +146,43 @@ fn random_words(random: &mut Random) -> (Car, Vec<u32>) {
     (random::reached_car(random), (0..LESSON_WORDS).map(|_| random.word()).collect())
 }
 
+/// Key in, key on with the radar ready, and accepted ticks, but for the last word.
+fn fresh_ticks(random: &mut Random) -> (Car, Vec<u32>) {
+    let mut words = vec![0xA000_0001; LESSON_WORDS];
+    words[..2].copy_from_slice(&[0x1000_0001, 0x1000_0006]);
+    (random::fresh_car(random), last_refused(words))
+}
+
+fn fresh_random(random: &mut Random) -> (Car, Vec<u32>) {
+    (random::fresh_car(random), (0..LESSON_WORDS).map(|_| random.word()).collect())
+}
+
 // ---------------------------------------------------------------- Ways
 
-fn library_lesson(record: &[u32; 12], words: &[u32], answers: &mut [u32]) -> u32 {
-    let mut record = *record;
-    let (refusal, counts) = library::lesson(Some(&mut record), Some(words), Some(answers));
+fn library_lesson(lesson: &Lesson, answers: &mut [u32]) -> u32 {
+    let mut record = lesson.record;
+    let (refusal, counts) = library::lesson(Some(&mut record), Some(&lesson.words), Some(answers));
     refusal ^ counts[1] as u32 ^ record[10]
 }
 
-fn model_lesson(record: &[u32; 12], words: &[u32], answers: &mut [u32]) -> u32 {
-    let lesson = Car::read(record).ok_or(18).and_then(|car| car.lesson(words, answers));
-    lesson.map_or(0, |lesson| lesson.accepted as u32 ^ lesson.car.write()[10])
+fn model_lesson(lesson: &Lesson, answers: &mut [u32]) -> u32 {
+    let taught = Car::read(&lesson.record).ok_or(18).and_then(|car| car.lesson(&lesson.words, answers));
+    taught.map_or(0, |lesson| lesson.accepted as u32 ^ lesson.car.write()[10])
 }
 
-fn tuned_lesson(record: &[u32; 12], words: &[u32], answers: &mut [u32]) -> u32 {
-    let lesson = Car::read(record).ok_or(18).and_then(|car| tuned::lesson(&car, words, answers));
-    lesson.map_or(0, |lesson| lesson.accepted as u32 ^ lesson.car.write()[10])
+fn tuned_lesson(lesson: &Lesson, answers: &mut [u32]) -> u32 {
+    let taught = Car::read(&lesson.record).ok_or(18).and_then(|car| tuned::lesson(&car, &lesson.words, answers));
+    taught.map_or(0, |lesson| lesson.accepted as u32 ^ lesson.car.write()[10])
 }
 
-fn library_drive(record: &[u32; 12], words: &[u32], _: &mut [u32]) -> u32 {
-    let mut record = *record;
-    words.iter().fold(0, |sum, &word| sum + library::drive(Some(&mut record), word)) ^ record[10]
+fn library_drive(lesson: &Lesson, _: &mut [u32]) -> u32 {
+    let mut record = lesson.record;
+    lesson.words.iter().fold(0, |sum, &word| sum + library::drive(Some(&mut record), word)) ^ record[10]
 }
 
 /// The same job in the model: read the record, drive, write the record.
-fn model_record_drive(record: &[u32; 12], words: &[u32], _: &mut [u32]) -> u32 {
-    let mut record = *record;
+fn model_record_drive(lesson: &Lesson, _: &mut [u32]) -> u32 {
+    let mut record = lesson.record;
     let mut drive = |word| match Car::read(black_box(&record)).ok_or(18).and_then(|car| car.drive(word)) {
         Ok(next) => {
             record = next.write();
@@ -152,13 +190,13 @@ fn model_record_drive(record: &[u32; 12], words: &[u32], _: &mut [u32]) -> u32 {
         }
         Err(refusal) => refusal,
     };
-    let sum = words.iter().fold(0, |sum, &word| sum + drive(word));
+    let sum = lesson.words.iter().fold(0, |sum, &word| sum + drive(word));
     sum ^ record[10]
 }
 
 /// The model's car carried from word to word, with no record.
-fn model_value_drive(record: &[u32; 12], words: &[u32], _: &mut [u32]) -> u32 {
-    let mut car = Car::read(record).expect("a good record");
+fn model_value_drive(lesson: &Lesson, _: &mut [u32]) -> u32 {
+    let mut car = Car::read(&lesson.record).expect("a good record");
     let mut drive = |word| match car.drive(word) {
         Ok(next) => {
             car = next;
@@ -166,36 +204,53 @@ fn model_value_drive(record: &[u32; 12], words: &[u32], _: &mut [u32]) -> u32 {
         }
         Err(refusal) => refusal,
     };
-    let sum = words.iter().fold(0, |sum, &word| sum + drive(word));
+    let sum = lesson.words.iter().fold(0, |sum, &word| sum + drive(word));
     sum ^ car.write()[10]
 }
 
 /// A record read and tested once for each word; the words only say how often.
-fn library_test(record: &[u32; 12], words: &[u32], _: &mut [u32]) -> u32 {
-    words.iter().fold(0, |sum, _| sum + library::test(Some(black_box(record))))
+fn library_test(lesson: &Lesson, _: &mut [u32]) -> u32 {
+    lesson.words.iter().fold(0, |sum, _| sum + library::test(Some(black_box(&lesson.record))))
 }
 
-fn model_test(record: &[u32; 12], words: &[u32], _: &mut [u32]) -> u32 {
-    words.iter().fold(0, |sum, _| sum + if Car::read(black_box(record)).is_some() { 0 } else { 18 })
+fn model_test(lesson: &Lesson, _: &mut [u32]) -> u32 {
+    lesson.words.iter().fold(0, |sum, _| sum + if Car::read(black_box(&lesson.record)).is_some() { 0 } else { 18 })
 }
 
 /// A record's figures, as one number.
-fn library_figures(record: &[u32; 12], words: &[u32], _: &mut [u32]) -> u32 {
-    words.iter().fold(0, |sum: u32, _| {
-        let (refusal, out) = library::figures(Some(black_box(record)));
+fn library_figures(lesson: &Lesson, _: &mut [u32]) -> u32 {
+    lesson.words.iter().fold(0, |sum: u32, _| {
+        let (refusal, out) = library::figures(Some(black_box(&lesson.record)));
         let [speed, desired, acceleration, visual, acoustic, distance] = [1, 3, 5, 7, 9, 11].map(|cell| out[cell]);
         let shown = [refusal, speed, desired, acceleration, visual, acoustic, distance];
         shown.iter().fold(sum, |sum, &figure| sum.wrapping_add(figure))
     })
 }
 
-fn model_figures(record: &[u32; 12], words: &[u32], _: &mut [u32]) -> u32 {
-    words.iter().fold(0, |sum: u32, _| {
-        let f = Car::read(black_box(record)).expect("a good record").figures();
+fn model_figures(lesson: &Lesson, _: &mut [u32]) -> u32 {
+    lesson.words.iter().fold(0, |sum: u32, _| {
+        let f = Car::read(black_box(&lesson.record)).expect("a good record").figures();
         let (visual, acoustic) = (u32::from(f.visual), u32::from(f.acoustic));
         let shown = [f.speed as u32, f.desired as u32, f.acceleration as u32, visual, acoustic, f.distance as u32];
         shown.iter().fold(sum, |sum, &figure| sum.wrapping_add(figure))
     })
+}
+
+/// A clean copy of a lesson from a fresh car: the number written, or the refusal.
+fn library_copy(lesson: &Lesson, copy: &mut [u32]) -> u32 {
+    let (refusal, out) = library::copy(lesson.settings(), Some(&lesson.words), Some(copy));
+    refusal ^ out[1] as u32
+}
+
+fn library_exact_copy(lesson: &Lesson, copy: &mut [u32]) -> u32 {
+    library_copy(lesson, &mut copy[..lesson.accepted])
+}
+
+/// The lesson itself: the number accepted.
+fn library_accepted(lesson: &Lesson, answers: &mut [u32]) -> u32 {
+    let mut record = lesson.record;
+    let (refusal, counts) = library::lesson(Some(&mut record), Some(&lesson.words), Some(answers));
+    refusal ^ counts[1] as u32
 }
 
 // ---------------------------------------------------------------- Measuring
@@ -204,6 +259,18 @@ fn print_pairs(name: &str, workloads: &[Workload], ways: &[(&str, Way); 2]) {
     for workload in workloads {
         let [library, model] = medians(workload, ways);
         println!("{name:<9}{:<14}{library:>10.2}{model:>10.2}{:>10.2}", workload.name, library / model);
+    }
+}
+
+fn print_copies(workloads: &[Workload]) {
+    let ways: [(&str, Way); 3] = [("copy", library_copy), ("exact", library_exact_copy), ("lesson", library_accepted)];
+    let [copy, exact, lesson] = ways.map(|(name, _)| name);
+    print!("{:<14}{copy:>10}{exact:>10}{lesson:>10}", "workload");
+    println!("{:>18}{:>18}", format!("{copy}/{lesson}"), format!("{exact}/{lesson}"));
+    for workload in workloads {
+        let [copy, exact, lesson] = medians(workload, &ways);
+        print!("{:<14}{copy:>10.2}{exact:>10.2}{lesson:>10.2}", workload.name);
+        println!("{:>18.2}{:>18.2}", copy / lesson, exact / lesson);
     }
 }
 
@@ -239,6 +306,6 @@ fn medians<const WAYS: usize>(workload: &Workload, ways: &[(&str, Way); WAYS]) -
 }
 
 fn once(workload: &Workload, way: Way, answers: &mut [u32]) -> u32 {
-    let one = |(record, words): &([u32; 12], Vec<u32>)| black_box(way(black_box(record), black_box(words), answers));
+    let one = |lesson: &Lesson| black_box(way(black_box(lesson), answers));
     workload.lessons.iter().map(one).fold(0, u32::wrapping_add)
 }

@@ -3,37 +3,57 @@
 use crate::expected;
 use crate::inputs::{self, read, stdin};
 use crate::outside::{difference, Folder};
+use crate::parts::Parts;
 use std::fs;
 
-/// A test program with a standard input: its input of a folder, and what it has to print for an input.
+/// A program with a standard input: its input of a folder, what it has to print for an input, and the room for both.
 struct Program {
     name: &'static str,
     input: fn(&Folder) -> Result<Vec<u8>, String>,
-    output: fn(&[u8]) -> Result<String, String>,
+    output: fn(&[u8]) -> Result<Vec<u8>, String>,
+    parts: Parts,
+    rooms: Rooms,
 }
 
-const PROGRAMS: [Program; 7] = [
-    Program { name: "event_words", input: inputs::event_words, output: expected::event_words },
-    Program { name: "car_figures", input: inputs::car_figures, output: expected::car_figures },
-    Program { name: "calls", input: inputs::calls, output: expected::calls },
-    Program { name: "record_words", input: inputs::record_words, output: expected::record_words },
-    Program { name: "cruise_calls", input: inputs::cruise_calls, output: expected::cruise_calls },
-    Program { name: "cab_words", input: inputs::cab_words, output: expected::cab_words },
-    Program { name: LESSON, input: inputs::lesson, output: expected::lesson },
+struct Rooms {
+    input: usize,
+    output: usize,
+}
+
+/// How many bytes a test program reads, and how many it prints: a number is put only where 21 bytes are left.
+const INPUT_ROOM: usize = 65_536;
+const TESTED: Rooms = Rooms { input: INPUT_ROOM, output: 131_072 - 21 };
+const COPIED: Rooms = Rooms { input: INPUT_ROOM, output: 524_288 - 21 };
+/// Those of a program that reads and prints piece by piece.
+const ANY: Rooms = Rooms { input: usize::MAX, output: usize::MAX };
+
+const PROGRAMS: [Program; 9] = [
+    tested("event_words", inputs::event_words, expected::event_words),
+    tested("car_figures", inputs::car_figures, expected::car_figures),
+    tested("calls", inputs::calls, expected::calls),
+    tested("record_words", inputs::record_words, expected::record_words),
+    tested("cruise_calls", inputs::cruise_calls, expected::cruise_calls),
+    tested("cab_words", inputs::cab_words, expected::cab_words),
+    Program { rooms: COPIED, ..tested("copies", inputs::copies, expected::copies) },
+    Program { rooms: ANY, ..tested(LESSON, inputs::lesson, expected::lesson) },
+    Program { rooms: ANY, parts: Parts::Words, ..tested("clean", inputs::clean, expected::clean) },
 ];
 
-/// The one that reads and prints piece by piece, any number of bytes.
+const fn tested(
+    name: &'static str,
+    input: fn(&Folder) -> Result<Vec<u8>, String>,
+    output: fn(&[u8]) -> Result<Vec<u8>, String>,
+) -> Program {
+    Program { name, input, output, parts: Parts::Lines, rooms: TESTED }
+}
+
 const LESSON: &str = "lesson";
 /// The exercise file that is its input.
 const LONGEST: &str = "clock-end.bin";
 /// The one that lists the files of its data/.
 const VECTORS: &str = "crates/vectors";
 /// The files of a folder that the programs' inputs come from beside those.
-const OTHERS: [&str; 4] = ["calls.in", "edges.in", "records.txt", LONGEST];
-
-/// How many bytes the others read, and how many they print: a number is put only where 21 bytes are left of 131,072.
-const INPUT_ROOM: usize = 65_536;
-const OUTPUT_ROOM: usize = 131_072 - 21;
+const OTHERS: [&str; 5] = ["calls.in", "copy.in", "edges.in", "records.txt", LONGEST];
 
 /// Holds every `stdout` to the model's answers to its input: true when there is no difference.
 pub fn run() -> bool {
@@ -54,34 +74,24 @@ fn told(result: Result<String, String>) -> bool {
 // ---------------------------------------------------------------- The present files
 
 fn hold() -> Result<String, String> {
-    let mut lines = 0;
-    for Program { name, output, .. } in PROGRAMS {
-        lines += hold_output(name, &output(&stdin(name)?)?)?;
+    let mut held = 0;
+    for Program { name, output, parts, .. } in PROGRAMS {
+        held += hold_output(name, &output(&stdin(name)?)?, parts)?;
     }
-    let mut listings = String::new();
+    let mut listings = Vec::new();
     for name in file_names()? {
-        listings += &expected::lesson(&read(&format!("{VECTORS}/data/{name}"))?)?;
+        listings.extend(expected::lesson(&read(&format!("{VECTORS}/data/{name}"))?)?);
     }
-    lines += hold_output("vectors", &listings)?;
-    Ok(format!("no difference in the expected outputs of {} test programs: {lines} lines", PROGRAMS.len() + 1))
+    held += hold_output("vectors", &listings, Parts::Lines)?;
+    Ok(format!("no difference in the expected outputs of {} programs: {held} lines and words", PROGRAMS.len() + 1))
 }
 
-/// Holds a program's `stdout` to the model's text. Gives the number of lines.
-fn hold_output(name: &str, model: &str) -> Result<usize, String> {
+/// Holds a program's `stdout` to the model's output. Gives the number of its parts.
+fn hold_output(name: &str, model: &[u8], parts: Parts) -> Result<usize, String> {
     let path = format!("crates/{name}/stdout");
-    let file = String::from_utf8(read(&path)?).map_err(|_| format!("{path}: no text"))?;
-    let mut sides = (file.split_inclusive('\n'), model.split_inclusive('\n'));
-    let shown = |line: Option<&str>| line.map_or(String::from("(no line)"), |line| format!("{line:?}"));
-    let mut lines = 0;
-    loop {
-        match (sides.0.next(), sides.1.next()) {
-            (None, None) => return Ok(lines),
-            (file, model) if file == model => lines += 1,
-            (file, model) => {
-                let place = format!("{path}, line {}", lines + 1);
-                return Err(difference(&place, "file", &shown(file), &shown(model)));
-            }
-        }
+    match parts.difference(&read(&path)?, model) {
+        None => Ok(parts.count(model)),
+        Some((place, [file, model])) => Err(difference(&format!("{path}, {place}"), "file", &file, &model)),
     }
 }
 
@@ -140,27 +150,27 @@ fn made(folder: &Folder, program: &Program) -> Result<Files, String> {
     let output = (program.output)(&input)?;
     if name == LESSON && !folder.has(LONGEST) {
         // It stands in one folder only because its listing is the same ever after.
-        hold_output(name, &output)?;
+        hold_output(name, &output, program.parts)?;
     }
-    if name != LESSON && (input.len() > INPUT_ROOM || output.len() > OUTPUT_ROOM) {
+    if input.len() > program.rooms.input || output.len() > program.rooms.output {
         return Err(format!("{name}: no room for an input of {} bytes or its {} of output", input.len(), output.len()));
     }
-    Ok(vec![(format!("crates/{name}/stdin"), input), (format!("crates/{name}/stdout"), output.into_bytes())])
+    Ok(vec![(format!("crates/{name}/stdin"), input), (format!("crates/{name}/stdout"), output)])
 }
 
 /// The exercise files of the program `vectors`, and their listings.
 fn made_listings(folder: &Folder, names: &[String]) -> Result<Files, String> {
     let mut files = Files::new();
-    let mut listings = String::new();
+    let mut listings = Vec::new();
     for name in names {
         let path = format!("{VECTORS}/data/{name}");
         let file = folder.bytes(name)?.map_or_else(|| read(&path), Ok)?;
         if file.len() > INPUT_ROOM {
             return Err(format!("vectors: no room for the {} bytes of {name}", file.len()));
         }
-        listings += &expected::lesson(&file)?;
+        listings.extend(expected::lesson(&file)?);
         files.push((path, file));
     }
-    files.push((format!("{VECTORS}/stdout"), listings.into_bytes()));
+    files.push((format!("{VECTORS}/stdout"), listings));
     Ok(files)
 }

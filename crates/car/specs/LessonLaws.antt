@@ -1,9 +1,9 @@
--- Laws of lessons: the answer word's parts fit, and words keep a car good.
+-- Laws of lessons: the answer word's parts fit, words keep a car good, and the counts.
 -- Assumes nothing.
 use mathlib.Core.Bool.{Bool, true, false}
-use mathlib.Core.Path.{_≡_, refl}
+use mathlib.Core.Path.{_≡_, refl, ap}
 use mathlib.Core.List.{List, [], _∷_}
-use Prim.Native.Nat.{ℕ, _+_, _≤_}
+use Prim.Native.Nat.{ℕ, suc, _+_, _≤_}
 use native.Mathlib.Omega.{arith}
 use lib.Dec.{eqb}
 use lib.ListN.{length}
@@ -27,7 +27,7 @@ use Rattle.car.specs.GoodLaws.{ceiling-le}
 use Rattle.car.specs.Standing.{Ranges}
 use Rattle.car.specs.Acceleration.{accelerationOf}
 use Rattle.car.specs.AccelerationLaws.{acceleration-size}
-use Rattle.car.specs.Lesson.{answering, driven, acceptedOf, refusedOf}
+use Rattle.car.specs.Lesson.{answering, driven, eachOf, acceptedOf, refusedOf}
 use Rattle.car.specs.StepLaws.{step-refusal, step-good}
 
 -- the checks of an event give no number above 16
@@ -86,3 +86,9 @@ pub counts-all : (c : Car) (ws : List ℕ) → acceptedOf c ws + refusedOf c ws 
 unfolding acceptedOf refusedOf
 counts-all c [] = refl
 counts-all c (w ∷ ws) = omega (arith, counts-all (stepOf c w .car) ws, one (eqb (stepOf c w .refusal) 0))
+
+-- a number for each word
+pub each-length : (f : Driven → ℕ) (c : Car) (ws : List ℕ) → length (eachOf f c ws) ≡ length ws
+unfolding eachOf
+each-length f c [] = refl
+each-length f c (w ∷ ws) = ap suc (each-length f _ ws)

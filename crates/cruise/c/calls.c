@@ -5,8 +5,8 @@
 
 #include <stdio.h>
 
-#if CRUISE_VERSION < 0x000100 || CRUISE_VERSION >= 0x010000
-#error "calls.c is for version 0.1 and those that keep to it"
+#if CRUISE_VERSION < 0x000200 || CRUISE_VERSION >= 0x010000
+#error "calls.c is for version 0.2 and those that keep to it"
 #endif
 
 /* What a buffer holds before a call, and the words round it always. */
@@ -444,6 +444,72 @@ static void lessons(void)
     }
 }
 
+/* A clean copy into a buffer of this length: its refusal, the words it leaves there, and their number between numbers that stay. */
+static void copy_is(int line, uint32_t settings, const uint32_t *lesson, size_t count, size_t room, uint32_t refusal,
+                    const uint32_t *wanted, size_t written)
+{
+    struct area given, buffer;
+    size_t got[3] = {77, 77, 77};
+    equal(line, "cruise_copy", cruise_copy(settings, lay(&given, lesson, count), count, lay(&buffer, NULL, 0), room, &got[1]), refusal);
+    equal(line, "written", (long long)got[1], (long long)written);
+    equal(line, "the number before it", (long long)got[0], 77);
+    equal(line, "the number after it", (long long)got[2], 77);
+    left(line, "the copy", &buffer, wanted, written);
+    left(line, "the lesson", &given, lesson, count);
+}
+
+/* Settings that are refused: with 17 before the buffer is looked at, which stays. */
+static void copy_refuses(uint32_t settings)
+{
+    size_t written = 77;
+    for (size_t room = 0; room <= 10; room++) {
+        copy_is(__LINE__, settings, listing, 10, room, CRUISE_SETTINGS, NULL, 0);
+    }
+    EQUAL(cruise_copy(settings, NULL, 0, NULL, 0, &written), CRUISE_SETTINGS);
+    EQUAL(written, 0);
+}
+
+/* The document's listing without the words that it shows as refused, 5 and 7. */
+static void copies(void)
+{
+    static const uint32_t clean[8] = {0x10000001, 0x10000006, 0x500000E1, 0xA0000001, 0x20000001, 0x20000000, 0x30000001, 0xA0000001};
+    static const uint32_t settings[4] = {0xD0000001, 0xD0000002, 0xD0000005, 0xD0000006};
+    static const uint32_t others[] = {0xD0000000, 0xD0000003, 0xD0000004, 0xD0000009, 0xD8000001, 0x10000001, 0x00000001, 0xFFFFFFFF};
+    static const uint32_t all_refused[3] = {0x500000E1, 0x00000000, 0x10000002}; /* 4, 1 and 7 */
+    struct area record, answers;
+    size_t accepted = 77, refused = 77, written = 77;
+    for (size_t i = 0; i < 4; i++) {
+        for (size_t room = 0; room <= 12; room++) {
+            uint32_t refusal = room < 8 ? CRUISE_SHORT_ANSWERS : CRUISE_ACCEPTED;
+            copy_is(__LINE__, settings[i], listing, 10, room, refusal, clean, room < 8 ? 0 : 8);
+            copy_is(__LINE__, settings[i], clean, 8, room, refusal, clean, room < 8 ? 0 : 8);
+        }
+    }
+    for (size_t i = 0; i < sizeof others / sizeof others[0]; i++) {
+        copy_refuses(others[i]);
+    }
+
+    /* driving the copy */
+    EQUAL(cruise_lesson(lay(&record, fresh, WORDS), WORDS, clean, 8, lay(&answers, NULL, 0), 8, &accepted, &refused), CRUISE_ACCEPTED);
+    EQUAL(accepted, 8);
+    EQUAL(refused, 0);
+    LEFT(record, listed, WORDS);
+
+    /* no words, and no accepted ones: no buffer is too short */
+    copy_is(__LINE__, 0xD0000001, listing, 0, 0, CRUISE_ACCEPTED, NULL, 0);
+    copy_is(__LINE__, 0xD0000001, listing, 0, 5, CRUISE_ACCEPTED, NULL, 0);
+    copy_is(__LINE__, 0xD0000001, all_refused, 3, 0, CRUISE_ACCEPTED, NULL, 0);
+    copy_is(__LINE__, 0xD0000001, all_refused, 3, 3, CRUISE_ACCEPTED, NULL, 0);
+    EQUAL(cruise_copy(0xD0000001, NULL, 0, NULL, 0, &written), CRUISE_ACCEPTED);
+    EQUAL(written, 0);
+    written = 77;
+    EQUAL(cruise_copy(0xD0000001, all_refused, 3, NULL, 0, &written), CRUISE_ACCEPTED);
+    EQUAL(written, 0);
+    written = 77;
+    EQUAL(cruise_copy(0xD0000001, listing, 10, NULL, 0, &written), CRUISE_SHORT_ANSWERS);
+    EQUAL(written, 0);
+}
+
 /* Each refusal of a word: a fresh car of mode 1, the words that lead to it, which are accepted, and the word refused. */
 static void refusals(void)
 {
@@ -666,6 +732,7 @@ int main(void)
     the_listing();
     the_list();
     lessons();
+    copies();
     refusals();
     figures();
     alikes();

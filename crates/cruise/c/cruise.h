@@ -2,8 +2,8 @@
 
    A car is its record, an array of CRUISE_RECORD_WORDS words. Keep it, copy it and hand it back whole: only the functions write in it.
    Every function gives the refusal's number, or 0 for none; where two would hold, the lower one, but 18 comes before all others. A refused
-   call leaves record and answer buffers as they were. A buffer crosses as a pointer and its length in words; a missing one is any pointer,
-   also NULL, with length 0. Nothing checks these three:
+   call leaves record, answer and copy buffers as they were. A buffer crosses as a pointer and its length in words; a missing one is any
+   pointer, also NULL, with length 0. Nothing checks these three:
    - Alignment: any pointer to a number, or to a buffer of one word or more, must be aligned as its type asks.
    - Overlap: what a function writes must not overlap with anything else that it is handed; what is only read may overlap.
    - The pointers to single numbers must not be NULL, and a buffer must have the length given.
@@ -24,7 +24,7 @@ extern "C" {
 
 /* The version of this header and of the archive beside it. */
 #define CRUISE_VERSION_MAJOR 0
-#define CRUISE_VERSION_MINOR 1
+#define CRUISE_VERSION_MINOR 2
 #define CRUISE_VERSION (CRUISE_VERSION_MAJOR << 16 | CRUISE_VERSION_MINOR << 8)
 
 /* How many words a record has. */
@@ -57,7 +57,7 @@ enum {
     /* Whoever calls. */
     CRUISE_SETTINGS = 17,      /* settings outside their values (no car) */
     CRUISE_NOT_ACCEPTED = 18,  /* a record not of 12 words or not accepted */
-    CRUISE_SHORT_ANSWERS = 19, /* answer buffer shorter than the words */
+    CRUISE_SHORT_ANSWERS = 19, /* answer buffer shorter than the words, or a copy's than the accepted ones */
     CRUISE_SHORT_RECORD = 20,  /* record buffer under 12 words */
     CRUISE_CUT_WORD = 21       /* file ends inside a word: no function gives it */
 };
@@ -165,6 +165,13 @@ uint32_t cruise_drive(uint32_t *record, size_t length, uint32_t word);
    record and answers kept, counts 0. */
 uint32_t cruise_lesson(uint32_t *record, size_t length, const uint32_t *words, size_t count, uint32_t *answers, size_t room,
                        size_t *accepted, size_t *refused);
+
+/* A clean copy of a lesson: the words that are accepted, from the fresh car of a settings word (cruise_word_settings), in order, into the
+   buffer's first words; the words past the copy keep their contents. Also the number of words written. The lesson of the copy refuses
+   nothing and ends in the same car. From version 0.2 on.
+   17 a word that is no settings word, or with settings outside their values. 19 buffer shorter than the accepted words. Either way the
+   buffer is kept whole and the number is 0. A buffer as long as the words always has room, and costs one pass over them instead of two. */
+uint32_t cruise_copy(uint32_t settings, const uint32_t *words, size_t count, uint32_t *copy, size_t room, size_t *written);
 
 /* Whether a record is accepted.
    18 a record not of 12 words or not accepted. */

@@ -7,6 +7,8 @@ ghost use Rattle.kit.specs.Answer.{gives, refused, numberOf};
 ghost use Rattle.settings.specs.SettingsWord.{startOf};
 ghost use Rattle.record.specs.Record.{readingAnswer, readOf};
 ghost use Rattle.record.specs.RecordLesson.{LessonLeft, lessonLeft};
+ghost use Rattle.copy.specs.declared.Copied.{Copied};
+ghost use Rattle.copy.specs.Copy.{startedCopy, startedBuffer};
 ghost use Rattle.cruise.specs.Cruise.{Left, freshLeft, driveLeft, figuresRead, Dials, dialsOf, alikeRefusal, alikeAnswer};
 use car::Car;
 use car::Fresh;
@@ -147,6 +149,29 @@ pub extern "C" fn cruise_alike(a: &[u32], b: &[u32], alike: &mut u32) -> u32
         }
         Reading::Refused(n) => {
             *alike = 0;
+            n
+        }
+    }
+}
+
+#[no_mangle]
+pub extern "C" fn cruise_copy(
+    settings: u32,
+    words: &[u32],
+    copy: &mut [u32],
+    written: &mut usize,
+) -> u32
+    ensures { λ r. ⌜ (_≡_ {A = Copied} (record { written = now (written .exit); refusal = r }) (startedCopy (startOf settings) (now (words .entry)) (now (copy .entry)))) × (now (copy .exit) ≡ startedBuffer (startOf settings) (now (words .entry)) (now (copy .entry))) ⌝ }
+{
+    let start = settings::start(settings);
+    match start {
+        Fresh::Made(car) => {
+            let part = copy::from_car(car, words, copy);
+            *written = part.written;
+            part.refusal
+        }
+        Fresh::Refused(n) => {
+            *written = 0;
             n
         }
     }

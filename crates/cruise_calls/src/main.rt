@@ -38,14 +38,6 @@ fn signed(out: &mut [u8], at: usize, n: i32) -> usize {
     tester::numbers(out, at, &[event::bit(n < 0), size_of(n)])
 }
 
-// The settings word of mode and signs; settings outside their values have none, and get 0, which is refused as they are.
-fn settings_word(mode: u32, signs: u32) -> u32 {
-    match settings::write(mode, signs) {
-        settings::Writing::Word(word) => word,
-        settings::Writing::Refused(_) => 0,
-    }
-}
-
 // The index of the next word of the input and the index past the text.
 struct Place {
     next: usize,
@@ -55,7 +47,7 @@ struct Place {
 fn fresh(place: Place, out: &mut [u8], input: &[u32], words: &mut [u32]) -> Place {
     let mut settings = [0; 2];
     tester::fill(&mut settings, input, place.next);
-    let refusal = cruise::cruise_fresh(settings_word(settings[0], settings[1]), words);
+    let refusal = cruise::cruise_fresh(tester::settings_word(settings[0], settings[1]), words);
     Place {
         next: tester::past(input, place.next, 2),
         end: tester::words_line(out, place.end, &[refusal]),

@@ -1,9 +1,7 @@
 -- The listing of an exercise file, from its bytes: document 01, "The cab, alike, and the program". Text is a list of ASCII codes.
 -- Assumes nothing.
 use mathlib.Core.List.{List, [], _++_, _∷_}
-use Prim.Native.Char.{code}
 use Prim.Native.Nat.{ℕ, _+_, _%_}
-use Prim.Native.String.{String, [] as []ˢ, _∷_ as _∷ˢ_}
 use lib.Dec.{eqb, ltb}
 use lib.ListN.{length, drop}
 use Rattle.kit.specs.Answer.{Answer, gives, refused}
@@ -16,7 +14,7 @@ use Rattle.car.specs.Drive.{stepOf}
 use Rattle.car.specs.Figures.{shown}
 use Rattle.settings.specs.SettingsWord.{startOf}
 use Rattle.wire.specs.Wire.{wordAt, wordsOf}
-use Rattle.listing.specs.Listing.{decimalOf, fieldOf, warningsOf}
+use Rattle.listing.specs.Listing.{fieldOf, warningsOf, ascii, refusedText}
 
 -- a with its sign, and a blank
 unfoldable pub accelerationText : Acceleration → List ℕ
@@ -28,20 +26,11 @@ figuresLine number refusal f =
     fieldOf number ++ fieldOf refusal ++ fieldOf (f .speed) ++ fieldOf (f .desired) ++ accelerationText (f .acceleration)
     ++ warningsOf (bitOf (f .visual)) (bitOf (f .acoustic))
 
--- ---- the other lines
--- a text by its codes
-unfoldable pub ascii : String → List ℕ
-ascii []ˢ = []
-ascii (c ∷ˢ s) = code c ∷ ascii s
-
--- the line of a refusal
-unfoldable pub refusedText : ℕ → List ℕ
-refusedText n = ascii "refused " ++ decimalOf n ++ ascii "\n"
-
+-- ---- the listing
+-- the head line
 unfoldable pub headText : List ℕ
 headText = ascii "n refusal speed desired accel visual acoustic\n"
 
--- ---- the listing
 -- a line for each event, the numbers rising by one: the refusal, and the figures of the car afterwards
 unfoldable pub eventsText : ℕ → Car → List ℕ → List ℕ
 eventsText number c [] = []

@@ -12,11 +12,12 @@ use Rattle.car.specs.Good.{goodOf}
 use Rattle.car.specs.Lesson.{driven}
 use Rattle.settings.specs.SettingsWord.{startOf}
 use Rattle.wire.specs.Wire.{wordAt, wordsOf}
+use Rattle.listing.specs.Listing.{refusedText}
 use Rattle.exercise.specs.declared.Place.{Place}
 use Rattle.exercise.specs.declared.Stage.{Stage}
 use Rattle.exercise.specs.declared.Stage.the-variants.{Awaited, Driving, Ended}
 use Rattle.exercise.specs.declared.Turned.{Turned}
-use Rattle.exercise.specs.Exercise.{refusedText, headText, eventsText}
+use Rattle.exercise.specs.Exercise.{headText, eventsText}
 
 -- a turn: the stage behind it, how many bytes it used, its text
 pub record Turn : Type 0 where

@@ -12,20 +12,20 @@ use lib.Seq.{take-all, drop-append-le, drop-drop}
 use Rattle.kit.specs.Answer.{Answer, gives, refused}
 use Rattle.kit.specs.Pick.{pick, pick-true, pick-false, pick-case, or-neither, not-of-true}
 use Rattle.car.specs.declared.Car.{Car}
-use Rattle.car.specs.FreshLaws.{permitted-good}
 use Rattle.car.specs.Good.{goodOf}
 use Rattle.car.specs.Lesson.{driven}
 use Rattle.car.specs.LessonLaws.{driven-good}
 use Rattle.settings.specs.SettingsWord.{startOf}
-use Rattle.settings.specs.SettingsWordLaws.{started-written}
+use Rattle.settings.specs.SettingsWordLaws.{started-good}
 use Rattle.wire.specs.Wire.{wordAt, wordsOf}
-use Rattle.wire.specs.WireLaws.{first-kept, words-length, words-parts}
-use Rattle.listing.specs.Listing.{placed}
+use Rattle.wire.specs.WireLaws.{first-kept, words-length, words-parts, few-words}
+use Rattle.listing.specs.Listing.{refusedText}
+use Rattle.kit.specs.Placed.{placed}
 use Rattle.exercise.specs.declared.Place.{Place}
 use Rattle.exercise.specs.declared.Stage.{Stage}
 use Rattle.exercise.specs.declared.Stage.the-variants.{Awaited, Driving, Ended}
 use Rattle.exercise.specs.declared.Turned.{Turned}
-use Rattle.exercise.specs.Exercise.{refusedText, headText, eventsText, endText, lessonText, startedText, listingOf}
+use Rattle.exercise.specs.Exercise.{headText, eventsText, endText, lessonText, startedText, listingOf}
 use Rattle.exercise.specs.ExerciseLaws.{events-append}
 use Rattle.exercise.specs.Pieces.{Turn, idle, drivenTurn, stuck, wordsTurn, eventsTurn, headed, startedTurn, turnOf, cutText, closeText, piecesText, whole, Short, turnIn, answeredAt}
 
@@ -48,36 +48,28 @@ unfolding piecesText turnOf closeText
 ended held [] = refl
 ended held (p ∷ ps) = ended _ ps
 
--- ---- the end of the file, by what is left of it
-end-rest : (bs more : List ℕ) → endText (drop (4 * (length bs / 4)) bs ++ more) ≡ endText (bs ++ more)
+-- ---- what is kept of some bytes for the next turn, and the end of the file by it
+abbrev pub kept : List ℕ → List ℕ
+kept bs = drop (4 * (length bs / 4)) bs
+
+pub kept-few : (bs : List ℕ) → length (kept bs) ≤ 3
+kept-few bs = omega (arith, length-drop (4 * (length bs / 4)) bs)
+
+pub kept-size : (bs more : List ℕ) → length (kept bs ++ more) % 4 ≡ length (bs ++ more) % 4
+kept-size bs more = omega (arith, length-append (kept bs) more, length-drop (4 * (length bs / 4)) bs, length-append bs more)
+
+end-rest : (bs more : List ℕ) → endText (kept bs ++ more) ≡ endText (bs ++ more)
 unfolding endText
-end-rest bs more = ap (λ n. pick (eqb n 0) [] (refusedText 21)) rest
-  where
-    rest : length (drop (4 * (length bs / 4)) bs ++ more) % 4 ≡ length (bs ++ more) % 4
-    rest = omega (arith, length-append (drop (4 * (length bs / 4)) bs) more, length-drop (4 * (length bs / 4)) bs, length-append bs more)
+end-rest bs more = ap (λ n. pick (eqb n 0) [] (refusedText 21)) (kept-size bs more)
 
 -- ---- events
-few-words : (held : List ℕ) → length held ≤ 3 → wordsOf held ≡ []
-unfolding wordsOf
-few-words [] h = refl
-few-words (a ∷ []) h = refl
-few-words (a ∷ b ∷ []) h = refl
-few-words (a ∷ b ∷ c ∷ []) h = refl
-few-words (a ∷ b ∷ c ∷ d ∷ bs) h = absurd (omega arith)
-
 -- the text of events to the end of the file
 abbrev rest-text : Place → List ℕ → List ℕ
 rest-text p bs = eventsText (p .number) (p .car) (wordsOf bs) ++ endText bs
 
--- where the lesson stands after the words of some bytes, and what is kept of them
+-- where the lesson stands after the words of some bytes
 abbrev further : Place → List ℕ → Place
 further p bs = record { car = driven (p .car) (wordsOf bs); number = p .number + length (wordsOf bs) }
-
-abbrev kept : List ℕ → List ℕ
-kept bs = drop (4 * (length bs / 4)) bs
-
-kept-few : (bs : List ℕ) → length (kept bs) ≤ 3
-kept-few bs = omega (arith, length-drop (4 * (length bs / 4)) bs)
 
 rest-parts : (p : Place) (bs more : List ℕ) → eventsText (p .number) (p .car) (wordsOf bs) ++ rest-text (further p bs) (kept bs ++ more) ≡ rest-text p (bs ++ more)
 rest-parts p bs more =
@@ -113,9 +105,6 @@ driving p held (q ∷ ps) g h s n =
     ∙ ap (rest-text p) (append-assoc held q (whole ps))
 
 -- ---- from the start
-started-good : (w : ℕ) (c : Car) → startOf w ≡ gives c → goodOf c ≡ true
-started-good w c e = let s = started-written w c e in rw (s .car) (permitted-good _ _ (s .permitted))
-
 -- the turn in which the settings word is whole
 started-turn : (a : Answer Car) (bs : List ℕ) (ps : List (List ℕ)) → startOf (wordAt bs 0) ≡ a → 4 ≤ length bs → length bs ≤ 4099 → Short ps → length (bs ++ whole ps) < 2 ^ 64
     → turn-text (startedTurn a bs) bs ps ≡ startedText a (drop 4 bs ++ whole ps)

@@ -7,9 +7,10 @@ ghost use Prim.Native.Nat.{_+_, _≤_};
 ghost use mathlib.Core.List.{_++_};
 ghost use lib.ListN.{length, drop};
 ghost use Rattle.car.specs.Good.{goodOf};
-ghost use Rattle.listing.specs.Listing.{placed};
+ghost use Rattle.kit.specs.Placed.{placed};
+ghost use Rattle.listing.specs.Listing.{refusedText};
 ghost use Rattle.exercise.specs.declared.Stage.the-variants.{Awaited};
-ghost use Rattle.exercise.specs.Exercise.{refusedText, headText};
+ghost use Rattle.exercise.specs.Exercise.{headText};
 ghost use Rattle.exercise.specs.Pieces.{idle, drivenTurn, wordsTurn, eventsTurn, headed, turnOf, cutText, turnIn, closeIn, answeredAt};
 use car::Car;
 use car::Fresh;
@@ -102,9 +103,7 @@ fn put_refused(out: &mut [u8], refusal: u32) -> usize
     requires { ⌜ 65600 ≤ length (now out) ⌝ }
     ensures { λ r. ⌜ (r ≡ length (refusedText refusal)) × (now (out .exit) ≡ placed (now (out .entry)) 0 (refusedText refusal)) ⌝ }
 {
-    let number = listing::put_text(out, 0, b"refused ");
-    let end = listing::put_decimal(out, number, refusal as u64);
-    listing::put_text(out, end, b"\n")
+    listing::put_refused(out, 0, refusal)
 }
 
 // The head line, from index 0 on.

@@ -6,9 +6,8 @@ use mathlib.Core.List.{List, [], _∷_, _++_}
 use Prim.Native.Nat.{ℕ, _+_, _≤_}
 use native.Mathlib.Omega.{arith}
 use borrow.Author.Tests.{eq-eqb, ne-eqb}
-use lib.Dec.{eqb}
 use Rattle.kit.specs.Answer.{gives}
-use Rattle.kit.specs.Pick.{pick, pick-true, pick-false, and-left, and-next}
+use Rattle.kit.specs.Pick.{pick, pick-false, and-left, and-next}
 use Rattle.event.specs.declared.Event.{Event}
 use Rattle.event.specs.Words.{readOf}
 use Rattle.car.specs.declared.Car.{Car}
@@ -17,11 +16,11 @@ use Rattle.car.specs.declared.drive.Driven.{Driven}
 use Rattle.car.specs.Drive.{checkOf, stepOf, eventNext}
 use Rattle.car.specs.Good.{goodOf, leverHeld}
 use Rattle.car.specs.GoodLaws.{good}
-use Rattle.car.specs.Lesson.{driven, refusedOf}
-use Rattle.car.specs.StepLaws.{Stepping, went, stayed, stepping, step-good, step-refusal}
+use Rattle.car.specs.Lesson.{driven}
+use Rattle.car.specs.StepLaws.{Stepping, went, stayed, stepping, step-good}
 use Rattle.history.specs.Neighbours.{isTick, isLever, Neighbouring, Neighbours}
 use Rattle.history.specs.NeighbourLaws.{next-neighbours}
-use Rattle.history.specs.History.{accepted, readTick, readLever, acceptedTick, acceptedLever, acceptedWords, ticksOf, leversOf, Since, sinceWord, since}
+use Rattle.history.specs.History.{accepted, readTick, readLever, acceptedTick, acceptedLever, ticksOf, leversOf, Since, sinceWord, since}
 
 no : {A : Type 0} → true ≡ false → A
 no e = absurd (true≢false e)
@@ -165,21 +164,3 @@ times-on c s (w ∷ ws) g z h = λ q.
     let v = times-on (stepOf c w .car) (sinceWord c s w) ws (step-good c w g) (omega arith) (times-step c s w g h) q in
     let e = since-plain c s w (omega arith) in
     (omega (arith, v .0, e .0), v .1 ∙ e .1)
-
--- ---- the accepted words alone
-pub alone-all : (c : Car) (ws : List ℕ) → goodOf c ≡ true
-    → (driven c (acceptedWords c ws) ≡ driven c ws) × (refusedOf c (acceptedWords c ws) ≡ 0)
-unfolding driven acceptedWords refusedOf
-alone-all c [] g = (refl, refl)
-alone-all c (w ∷ ws) g = by (word-view c w g) (alone-all (stepOf c w .car) ws (step-good c w g))
-  where
-    rest : List ℕ
-    rest = acceptedWords (stepOf c w .car) ws
-
-    by : Word c w → (driven (stepOf c w .car) rest ≡ driven (stepOf c w .car) ws) × (refusedOf (stepOf c w .car) rest ≡ 0)
-        → (driven c (pick (accepted c w) (w ∷ rest) rest) ≡ driven (stepOf c w .car) ws) × (refusedOf c (pick (accepted c w) (w ∷ rest) rest) ≡ 0)
-    by (took e a _) ih =
-        let r : eqb (stepOf c w .refusal) 0 ≡ true = rw (step-refusal c w) a in
-        let p = pick-true {A = ℕ} (eqb (stepOf c w .refusal) 0) 0 1 r in
-        rw (pick-true (accepted c w) (w ∷ rest) rest a) (ih .0, omega (arith, p, ih .1))
-    by (left n q) ih = rw (pick-false (accepted c w) (w ∷ rest) rest n) (rw q (rw q at (ih .0)), rw q (rw q at (ih .1)))

@@ -2,5 +2,6 @@ pub mod Neighbours
 pub mod NeighbourLaws
 pub mod History
 pub mod HistoryLaws
+pub mod AcceptedLaws
 pub mod BandLaws
 pub mod WarningLaws

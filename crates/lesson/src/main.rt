@@ -1,9 +1,9 @@
 // The program `lesson` (document 01, "The cab, alike, and the program"): the listing of an exercise file, on standard output. The work is
 // `exercise`'s; here it is read and written, and no contract can say what comes in or goes out.
-ghost use Prim.Native.Nat.{_+_, _≤_};
+ghost use Prim.Native.Nat.{_≤_};
 ghost use lib.ListN.{length};
+use command::Request;
 use exercise::Stage;
-use libc::STDIN_FILENO;
 
 // How far the listing has come, how many bytes are kept for the next piece, and whether there is more to do.
 struct Progress {
@@ -128,56 +128,19 @@ docs/REFERENCE.md has every word, refusal and figure.
     );
 }
 
-// The one argument: an option, or a file's name. `what` is the program and that name.
-fn run(name: &[u8], what: &[u8]) {
-    if check::same(name, b"--help") {
-        help();
-        return;
+fn run(what: &mut [u8]) {
+    match command::asked(b"lesson: ", what) {
+        Request::Input(input, end) => {
+            list(input, &what[0..end]);
+            libc::close(input);
+        }
+        Request::Help => help(),
+        Request::Usage => usage(),
+        Request::Nothing => {}
     }
-    if is_option(name) {
-        usage();
-        return;
-    }
-    let file = os::open_read(name);
-    if file < 0 {
-        os::fail(what);
-        return;
-    }
-    list(file, what);
-    libc::close(file);
-}
-
-fn is_option(name: &[u8]) -> bool {
-    if name.len() == 0 {
-        return false;
-    }
-    name[0] == b'-'
-}
-
-// The argument stands behind the program's name.
-fn run_named(what: &mut [u8])
-    requires { ⌜ 8 ≤ length (now what) ⌝ }
-{
-    listing::put_text(what, 0, b"lesson: ");
-    let size = os::arg(1, &mut what[8..]);
-    if os::errno() != 0 {
-        os::fail(b"lesson: FILE");
-        return;
-    }
-    let end = 8 + size;
-    run(&what[8..end], &what[0..end]);
 }
 
 fn main() {
-    let arguments = os::arg_count();
-    if arguments < 2 {
-        list(STDIN_FILENO, b"lesson: standard input");
-        return;
-    }
-    if arguments > 2 {
-        usage();
-        return;
-    }
     let mut what = [0u8; 4104];
-    run_named(&mut what);
+    run(&mut what);
 }

@@ -9,8 +9,8 @@ use native.Mathlib.Omega.{arith}
 use lib.ListN.{length, drop, getD, set, length-append, drop-of-length-le}
 use lib.Seq.{drop-cons}
 use Rattle.listing.proofs.Putting.{stored-one}
-use Rattle.listing.specs.Listing.{lineOf, linesOf, placed}
-use Rattle.listing.specs.ListingLaws.{placed-nothing, placed-length, placed-more}
+use Rattle.kit.specs.Placed.{placed, placed-nothing, placed-length, placed-more}
+use Rattle.listing.specs.Listing.{lineOf, linesOf}
 use Rattle.listing.specs.Put.{Put}
 
 pub record Going (out₀ : List ℕ) (at₀ : ℕ) (whole : List ℕ) (out : List ℕ) (at : ℕ) (rest : List ℕ) : Type 0 where

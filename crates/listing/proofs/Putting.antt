@@ -8,8 +8,7 @@ use native.Mathlib.Numerals.{add-one, add-two, add-three}
 use native.Mathlib.Omega.{arith}
 use lib.ListN.{length, length-append, set}
 use lib.Seq.{sets, sets-eq}
-use Rattle.listing.specs.Listing.{placed}
-use Rattle.listing.specs.ListingLaws.{placed-more}
+use Rattle.kit.specs.Placed.{placed, placed-more}
 use Rattle.listing.specs.Put.{Put}
 
 stored : (out : List ℕ) (at : ℕ) (text : List ℕ) → at + length text ≤ length out → Put out at text (length text) (sets out at text) (at + length text)

@@ -2,10 +2,13 @@
 -- Assumes nothing.
 use mathlib.Core.Bool.{Bool, _||_}
 use mathlib.Core.List.{List, [], _∷_, _++_}
+use Prim.Native.Char.{code}
 use Prim.Native.Nat.{ℕ, zero, suc, _+_, _-_, _*_, _/_, _%_}
+use Prim.Native.String.{String, [] as []ˢ, _∷_ as _∷ˢ_}
 use lib.Dec.{leb, ltb}
-use lib.ListN.{length, take, drop}
+use lib.ListN.{length}
 use Rattle.kit.specs.Pick.{pick}
+use Rattle.kit.specs.Placed.{placed}
 use Rattle.event.specs.Words.{bitOf}
 use Rattle.answer.specs.declared.Answer.{Answer}
 use Rattle.answer.specs.AnswerWord.{readOf}
@@ -51,11 +54,18 @@ linesOf first [] vs = []
 linesOf first (w ∷ ws) [] = []
 linesOf first (w ∷ ws) (v ∷ vs) = lineOf first w v ++ linesOf (first + 1) ws vs
 
--- ---- text in a slice
+-- ---- other lines
 
--- the slice with the text from index `at` on
-unfoldable pub placed : List ℕ → ℕ → List ℕ → List ℕ
-placed out at text = take at out ++ text ++ drop (at + length text) out
+-- a text by its codes
+unfoldable pub ascii : String → List ℕ
+ascii []ˢ = []
+ascii (c ∷ˢ s) = code c ∷ ascii s
+
+-- the line of a refusal
+unfoldable pub refusedText : ℕ → List ℕ
+refusedText n = ascii "refused " ++ decimalOf n ++ ascii "\n"
+
+-- ---- text in a slice
 
 -- put from index `at` on where so many bytes are left for it, else nothing is put: the index past it, and the slice
 unfoldable pub putPast : List ℕ → ℕ → ℕ → List ℕ → ℕ

@@ -1,19 +1,19 @@
--- Laws of the listing: digits, the printed listing's lines, text after text in a slice.
+-- Laws of the listing: digits, the line of a refusal, a text that has room, the printed listing's lines.
 -- Assumes nothing.
 use mathlib.Core.Path.{_≡_, refl, sym, ap, _∙_}
 use mathlib.Core.Bool.{Bool, true, false}
-use mathlib.Core.List.{List, [], _∷_, _++_, append-assoc, append-nil}
+use mathlib.Core.List.{List, [], _∷_, _++_}
 use Prim.Native.Nat.{ℕ, zero, suc, _+_, _-_, _/_, _%_, _^_, _≤_, _<_}
-use native.Mathlib.Nat.{pow-suc, add-zero, add-assoc}
+use native.Mathlib.Nat.{pow-suc}
 use native.Mathlib.Omega.{arith}
-use borrow.Author.Tests.{lt-ltb, le-ltb, ltb-true, ltb-false}
-use lib.Dec.{ltb}
-use lib.ListN.{length, take, length-append, length-take, length-drop, take-append-drop}
-use lib.Seq.{take-at, drop-append-add, drop-drop, length-take-le}
-use Rattle.kit.specs.Pick.{pick, pick-true, pick-false}
+use borrow.Author.Tests.{lt-ltb, le-ltb, le-leb, leb-true, ltb-true, ltb-false}
+use lib.Dec.{leb, ltb}
+use lib.ListN.{length, length-append}
+use Rattle.kit.specs.Pick.{pick, pick-true, pick-false, pick-case}
+use Rattle.kit.specs.Placed.{placed}
 use Rattle.event.specs.Words.{bitOf}
 use Rattle.answer.specs.AnswerWord.{readOf}
-use Rattle.listing.specs.Listing.{digit, decimalIn, decimalOf, fieldOf, signedOf, warningsOf, answerLine, lineOf, placed}
+use Rattle.listing.specs.Listing.{digit, decimalIn, decimalOf, fieldOf, signedOf, warningsOf, answerLine, lineOf, ascii, refusedText, putPast, putAfter}
 
 -- ---- digits
 
@@ -60,6 +60,23 @@ decimal-length (suc k) n h = go (ltb n 10) refl (decimal-length k (n / 10) (omeg
     go true e g = rw (decimal-one n (ltb-true n 10 e)) (omega arith)
     go false e g = rw (decimal-more n (ltb-false n 10 e)) (simp length-append (omega arith))
 
+-- ---- the line of a refusal
+pub refused-length : (n : ℕ) → n < 10 ^ 20 → length (refusedText n) ≤ 29
+unfolding ascii refusedText
+refused-length n h = simp length-append (omega (arith, decimal-length 19 n h))
+
+-- ---- a text in a slice
+-- where there is room for it
+pub put-room : (out : List ℕ) (at most : ℕ) (text : List ℕ) → at + most ≤ length out
+    → (putPast out at most text ≡ at + length text) × (putAfter out at most text ≡ placed out at text)
+unfolding putPast putAfter
+put-room out at most text h = let t = le-leb _ _ h in (pick-true _ _ _ t, pick-true _ _ _ t)
+
+-- the index past it, put or not, lies within the slice
+pub past-within : (out : List ℕ) (at most : ℕ) (text : List ℕ) {past : ℕ} → past ≡ putPast out at most text → at ≤ length out → length text ≤ most → past ≤ length out
+unfolding putPast
+past-within out at most text e h s = rw e (pick-case (λ (n : ℕ). n ≤ length out) (leb (at + most) (length out)) _ _ (λ t. omega (arith, leb-true (at + most) (length out) t)) (λ _. h))
+
 -- ---- the document's own listing
 
 -- lines 1, 4, 5, 7 and 10 of the printed listing
@@ -71,21 +88,3 @@ pub printed-lines :
     × (lineOf 10 3221577984 42 ≡ 49 ∷ 48 ∷ 32 ∷ 48 ∷ 32 ∷ 52 ∷ 50 ∷ 32 ∷ 50 ∷ 49 ∷ 32 ∷ 54 ∷ 32 ∷ 48 ∷ 32 ∷ 48 ∷ 10 ∷ [])
 unfolding answerLine readOf bitOf fieldOf signedOf warningsOf decimalOf decimalIn pick
 printed-lines = (refl, refl, refl, refl, refl)
-
--- ---- text in a slice
-
-pub placed-nothing : (out : List ℕ) (at : ℕ) → placed out at [] ≡ out
-unfolding placed
-placed-nothing out at = simp (append-nil, add-zero) (take-append-drop at out)
-
-pub placed-length : (out : List ℕ) (at : ℕ) (text : List ℕ) → at + length text ≤ length out → length (placed out at text) ≡ length out
-unfolding placed
-placed-length out at text h = simp (length-append, length-take, length-drop) (omega arith)
-
-pub placed-more : (out : List ℕ) (at : ℕ) (text more : List ℕ) → at ≤ length out → placed (placed out at text) (at + length text) more ≡ placed out at (text ++ more)
-unfolding placed
-placed-more out at text more h =
-    rw (take-at (take at out ++ text) _ (at + length text) head, ← head, drop-append-add (take at out ++ text), head, drop-drop) (simp (append-assoc, length-append, add-assoc))
-  where
-    head : length (take at out ++ text) ≡ at + length text
-    head = length-append (take at out) text ∙ rw (length-take-le at out h)

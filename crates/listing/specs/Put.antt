@@ -4,7 +4,8 @@ use mathlib.Core.Path.{_≡_}
 use mathlib.Core.List.{List, [], _∷_, _++_}
 use Prim.Native.Nat.{ℕ, _+_, _≤_, _/_, _%_}
 use lib.ListN.{length}
-use Rattle.listing.specs.Listing.{digit, placed}
+use Rattle.kit.specs.Placed.{placed}
+use Rattle.listing.specs.Listing.{digit}
 
 -- the text, of at most so many bytes, at the index, with the slice afterwards and the index past it
 pub record Put (out : List ℕ) (at : ℕ) (text : List ℕ) (most : ℕ) (after : List ℕ) (past : ℕ) : Type 0 where

@@ -9,6 +9,7 @@ mod line;
 mod text;
 
 pub use text::put_decimal;
+pub use text::put_refused;
 pub use text::put_text;
 
 // A line for each event, by its answer word and v, the numbers rising from `first`. Room is 64 bytes for each. With fewer speeds than answers, or

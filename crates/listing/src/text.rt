@@ -1,7 +1,7 @@
-// A text and a number at an index of a slice.
+// A text, a number and the line of a refusal at an index of a slice.
 ghost use mathlib.Core.Path.{_≡_};
 ghost use lib.ListN.{length};
-ghost use Rattle.listing.specs.Listing.{decimalOf, putPast, putAfter};
+ghost use Rattle.listing.specs.Listing.{decimalOf, refusedText, putPast, putAfter};
 use crate::digits::put_number;
 
 pub fn put_text(out: &mut [u8], at: usize, text: &[u8]) -> usize
@@ -32,4 +32,19 @@ pub fn put_decimal(out: &mut [u8], at: usize, n: u64) -> usize
         return at;
     }
     put_number(out, at, n)
+}
+
+// "refused", a refusal's number and the end of the line. Room is 29 bytes.
+pub fn put_refused(out: &mut [u8], at: usize, refusal: u32) -> usize
+    ensures { λ r. ⌜ (r ≡ putPast (now (out .entry)) at 29 (refusedText refusal)) × (now (out .exit) ≡ putAfter (now (out .entry)) at 29 (refusedText refusal)) ⌝ }
+{
+    if out.len() < 29 {
+        return at;
+    }
+    if out.len() - 29 < at {
+        return at;
+    }
+    let number = put_text(out, at, b"refused ");
+    let end = put_decimal(out, number, refusal as u64);
+    put_text(out, end, b"\n")
 }

@@ -12,7 +12,8 @@ use Rattle.kit.specs.Pick.{pick, pick-true, pick-false, not-of-true, or-neither
 use Rattle.event.specs.Words.{kindOf, bodyOf}
 use Rattle.car.specs.declared.Car.{Car}
 use Rattle.car.specs.Car.{freshCar, settingsOf, Permitted, check17, freshOf}
-use Rattle.car.specs.FreshLaws.{passed, permitted-fresh, other-17}
+use Rattle.car.specs.FreshLaws.{passed, permitted-fresh, permitted-good, other-17}
+use Rattle.car.specs.Good.{goodOf}
 use Rattle.settings.specs.SettingsWord.{settingsKind, modeOf, signsOf, startOf, wordOf, writeOf, Starts}
 
 -- ---- a test that refuses, or a value
@@ -36,7 +37,7 @@ other w = not (eqb (kindOf w) settingsKind) || leb (2 ^ 3) (bodyOf w)
 
 -- ---- settings written
 module _ (mode signs : ℕ) where
-  -- settings that make a car are permitted, the car is their fresh one, and they have a word
+  -- settings that make a car are permitted, the car is their fresh one, which is good, and they have a word
   pub made-permitted : (c : Car) → freshOf mode signs ≡ gives c → Permitted mode signs
   unfolding freshOf
   made-permitted c h = passed mode signs (gave _ _ _ _ h .0)
@@ -44,6 +45,9 @@ module _ (mode signs : ℕ) where
   made-car : (c : Car) → freshOf mode signs ≡ gives c → c ≡ freshCar (settingsOf mode signs)
   unfolding freshOf
   made-car c h = sym (gave _ _ _ _ h .1)
+
+  pub made-good : (c : Car) → freshOf mode signs ≡ gives c → goodOf c ≡ true
+  made-good c h = rw (made-car c h) (permitted-good mode signs (made-permitted c h))
 
   pub made-written : (c : Car) → freshOf mode signs ≡ gives c → writeOf mode signs ≡ gives (wordOf mode signs)
   unfolding freshOf writeOf
@@ -125,6 +129,10 @@ module _ (w : ℕ) where
   pub started-written : (c : Car) → startOf w ≡ gives c → Starts w c
   unfolding startOf
   started-written c h = started (other w) c refl h
+
+  -- the car that a word starts is good
+  pub started-good : (c : Car) → startOf w ≡ gives c → goodOf c ≡ true
+  started-good c h = let s = started-written c h in rw (s .car) (permitted-good _ _ (s .permitted))
 
   -- a word is refused with 17 alone
   pub refused-17 : (n : ℕ) → startOf w ≡ refused n → n ≡ 17

@@ -9,8 +9,9 @@ use borrow.Author.Tests.{le-leb, lt-leb}
 use lib.ListN.{length, drop, getD, length-append, drop-of-length-le}
 use lib.Seq.{drop-cons}
 use Rattle.kit.specs.Pick.{pick-true, pick-false}
-use Rattle.listing.specs.Listing.{decimalOf, placed, putPast, putAfter}
-use Rattle.listing.specs.ListingLaws.{decimal-length, placed-length, placed-more}
+use Rattle.kit.specs.Placed.{placed, placed-length, placed-more}
+use Rattle.listing.specs.Listing.{decimalOf, putPast, putAfter}
+use Rattle.listing.specs.ListingLaws.{decimal-length}
 use Rattle.tester.specs.Output.{Page, page, put, putText, putEnded, putNumber, putNumbers}
 
 -- ---- a text

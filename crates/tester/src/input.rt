@@ -2,9 +2,11 @@
 ghost use mathlib.Core.Path.{_≡_};
 ghost use Prim.Native.Nat.{_+_, _≤_, min};
 ghost use lib.ListN.{length, getD, drop};
-ghost use Rattle.tester.specs.Input.{firstOf};
+ghost use Rattle.settings.specs.SettingsWord.{writeOf};
+ghost use Rattle.tester.specs.Input.{firstOf, wordOr0};
 use console::Reading;
 use libc::STDIN_FILENO;
+use settings::Writing;
 
 // Reads all of standard input, 65,536 bytes at most. `what` is the program and the input's name. No contract can say what is read.
 pub fn read_words(words: &mut [u32], what: &[u8]) -> Reading
@@ -39,17 +41,24 @@ pub fn size(words: &[u32], at: usize, most: usize) -> usize
     most
 }
 
-// The index so many words further, or the end of the words.
+// The index so many places further, or the end.
+pub fn further(at: usize, count: usize, end: usize) -> usize
+    ensures { λ r. ⌜ r ≡ min (at + count) end ⌝ }
+{
+    if end < count {
+        return end;
+    }
+    if end - count < at {
+        return end;
+    }
+    at + count
+}
+
+// The same among words.
 pub fn past(words: &[u32], at: usize, count: usize) -> usize
     ensures { λ r. ⌜ r ≡ min (at + count) (length (now (words .entry))) ⌝ }
 {
-    if words.len() < count {
-        return words.len();
-    }
-    if words.len() - count < at {
-        return words.len();
-    }
-    at + count
+    further(at, count, words.len())
 }
 
 // The words from an index on.
@@ -71,5 +80,15 @@ pub fn fill(into: &mut [u32], words: &[u32], at: usize)
     while i < into.len() {
         into[i] = word(from, i);
         i += 1;
+    }
+}
+
+// The settings word of mode and signs; settings outside their values have none, and get 0, which is refused as they are.
+pub fn settings_word(mode: u32, signs: u32) -> u32
+    ensures { λ r. ⌜ r ≡ wordOr0 (writeOf mode signs) ⌝ }
+{
+    match settings::write(mode, signs) {
+        Writing::Word(word) => word,
+        Writing::Refused(_) => 0,
     }
 }

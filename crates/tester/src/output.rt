@@ -43,6 +43,13 @@ pub fn number(out: &mut [u8], at: usize, n: u32) -> usize
     ended(out, at, n as u64, b' ')
 }
 
+// A count of words and a blank.
+pub fn count(out: &mut [u8], at: usize, n: usize) -> usize
+    ensures { λ r. ⌜ page (now (out .exit)) r ≡ putNumber (page (now (out .entry)) at) n ⌝ }
+{
+    ended(out, at, n as u64, b' ')
+}
+
 // The last number of a line, and the line's end.
 pub fn last(out: &mut [u8], at: usize, n: u32) -> usize
     ensures { λ r. ⌜ page (now (out .exit)) r ≡ putLast (page (now (out .entry)) at) n ⌝ }
@@ -82,8 +89,8 @@ pub fn lesson_line(
     ensures { λ r. ⌜ page (now (out .exit)) r ≡ putWordsLine (page (now (out .entry)) at) (refusal ∷ accepted ∷ refused ∷ []) ⌝ }
 {
     let first = number(out, at, refusal);
-    let second = ended(out, first, accepted as u64, b' ');
-    let end = ended(out, second, refused as u64, b' ');
+    let second = count(out, first, accepted);
+    let end = count(out, second, refused);
     end_line(out, end)
 }
 

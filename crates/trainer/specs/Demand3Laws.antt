@@ -24,7 +24,8 @@ use Rattle.car.specs.LessonLaws.{driven-good, refusal-le, counts-all}
 use Rattle.car.specs.StepLaws.{step-good, drive-step}
 use Rattle.history.specs.Neighbours.{isLever}
 use Rattle.history.specs.History.{acceptedLever, ticksOf, leversOf, Since, never}
-use Rattle.history.specs.HistoryLaws.{Accepted, Word, took, left, word-view, driven-append, now-all, neighbouring-step, Times, times-all, times-on, alone-all}
+use Rattle.history.specs.HistoryLaws.{Accepted, Word, took, left, word-view, driven-append, now-all, neighbouring-step, Times, times-all, times-on}
+use Rattle.history.specs.AcceptedLaws.{accepted-same, accepted-clean}
 use Rattle.record.specs.Layout.{packed}
 use Rattle.record.specs.Record.{savedRefusal, savedBuffer}
 use Rattle.record.specs.RecordLaws.{saved-read}
@@ -255,8 +256,8 @@ from-good c ks g idle zero = record {
   lesson-fits = λ js ws buffer ls _ h. lesson-refusal _ ws buffer (ends-good c js g) ∙ pick-false _ _ _ (le-ltb _ _ h);
   record-short = λ js buffer ls _ h. record-refusal _ buffer (ends-good c js g) ∙ pick-true _ _ _ (lt-ltb _ _ h);
   record-fits = λ js buffer ls _ h. record-refusal _ buffer (ends-good c js g) ∙ pick-false _ _ _ (le-ltb _ _ h);
-  alone = ends-words c ks g ∙ sym (alone-all c (words c ks) g .0);
-  none-refused = alone-all c (words c ks) g .1;
+  alone = ends-words c ks g ∙ sym (accepted-same c (words c ks));
+  none-refused = accepted-clean c (words c ks);
   counts = λ js ws buffer ls _. lesson-counts _ ws buffer (ends-good c js g);
   clock = ap (λ (x : Car). x .now) (ends-words c ks g) ∙ omega (arith, now-all c (words c ks) g);
   without-car = without c ks g .0;

@@ -1,22 +1,11 @@
 // Lists the outside exercise files in data/, each cut into pieces of a size of its own: the expected output is their listings in the same
 // order. The longest, clock-end.bin, is the input of `lesson`.
-ghost use Prim.Native.Nat.{_≤_, _<_};
+ghost use Prim.Native.Nat.{_≤_};
 ghost use lib.ListN.{length};
 use exercise::Stage;
 
 fn write(text: &[u8]) -> bool {
     console::write(text, b"vectors: standard output")
-}
-
-// Where the next piece ends.
-fn piece_end(from: usize, cut: usize, end: usize) -> usize
-    requires { ⌜ (1 ≤ cut) × (from < end) ⌝ }
-    ensures { λ r. ⌜ (from < r) × (r ≤ end) ⌝ }
-{
-    if end - from < cut {
-        return end;
-    }
-    from + cut
 }
 
 // The listing of the bytes of a file, and whether it went out.
@@ -27,7 +16,7 @@ fn list_pieces(bytes: &[u8], cut: usize, out: &mut [u8]) -> bool
     let mut from = 0;
     let mut to = 0;
     while to < bytes.len() {
-        to = piece_end(to, cut, bytes.len());
+        to = tester::further(to, cut, bytes.len());
         let turned = exercise::turn(stage, &bytes[from..to], out);
         let end = turned.end;
         if !write(&out[0..end]) {

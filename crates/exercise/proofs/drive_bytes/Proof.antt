@@ -1,8 +1,8 @@
 use mathlib.Core.Path.{refl}
 use native.Mathlib.Omega.{arith}
 use borrow.Author.Needs.{needs}
+use Rattle.wire.specs.WireLaws.{count-le, words-taken, taken-le}
 use Rattle.exercise.specs.Pieces.{eventsTurn}
-use Rattle.exercise.proofs.Turning.{count-le, words-taken, taken-le}
 use Rattle.exercise.proofs.drive_bytes.Statement.{statement}
 use Rattle.exercise.proofs.drive_bytes.Tie as tie
 

@@ -1,6 +1,8 @@
+use native.Mathlib.Omega.{arith}
 use borrow.Author.Needs.{needs}
-use Rattle.exercise.proofs.Turning.{head-put}
-use Rattle.exercise.specs.Exercise.{ascii, headText}
+use Rattle.exercise.proofs.Turning.{text-put}
+use Rattle.listing.specs.Listing.{ascii}
+use Rattle.exercise.specs.Exercise.{headText}
 use Rattle.exercise.proofs.put_head.Statement.{statement}
 use Rattle.exercise.proofs.put_head.Tie as tie
 
@@ -12,4 +14,4 @@ put-head-spec =
     (λ c. search needs)
     (λ c κs. search needs)
     (λ c. search needs)
-    (λ c. head-put _ (c .before .before .before .before .before .before .pre) (c .before .before .put-text .ensures)))
+    (λ c. text-put _ 46 headText (omega (arith, c .before .before .before .before .before .before .pre)) (c .before .before .put-text .ensures)))

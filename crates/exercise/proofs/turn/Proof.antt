@@ -1,7 +1,7 @@
 use mathlib.Core.Path.{refl, sym}
 use native.Mathlib.Omega.{arith}
 use borrow.Author.Needs.{needs}
-use Rattle.listing.specs.ListingLaws.{placed-nothing}
+use Rattle.kit.specs.Placed.{placed-nothing}
 use Rattle.exercise.specs.Pieces.{turnOf}
 use Rattle.exercise.proofs.Turning.{undone, turn-short, turn-room, answered}
 use Rattle.exercise.proofs.turn.Statement.{statement}

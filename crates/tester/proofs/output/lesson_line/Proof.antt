@@ -14,4 +14,4 @@ lesson-line-spec =
     (λ c κs. search needs)
     (λ c κs. search needs)
     (λ c. search needs)
-    (λ c. c .before .before .end-line .ensures ∙ rw (c .before .before .before .before .before .before .ended2 .ensures, c .before .before .before .before .before .before .before .before .before .before .ended .ensures, c .before .before .before .before .before .before .before .before .before .before .before .before .before .before .number .ensures)))
+    (λ c. c .before .before .end-line .ensures ∙ rw (c .before .before .before .before .before .before .count2 .ensures, c .before .before .before .before .before .before .before .before .before .before .count .ensures, c .before .before .before .before .before .before .before .before .before .before .before .before .before .before .number .ensures)))
