@@ -61,82 +61,103 @@ fn by_car(out: &mut [u8], at: usize, car: Car, words: &[u32], buffer: &mut [u32]
     tester::car_line(out, end, after)
 }
 
-// A copy from settings, twice; the words are the next of the input.
+// What a copy starts from: settings, or a car as it stands.
+enum Source {
+    Settings(u32, u32),
+    Standing(Car),
+}
+
 fn from_settings(
-    place: Place,
     out: &mut [u8],
-    input: &[u32],
-    settings: &[u32],
-    words: &mut [u32],
+    at: usize,
+    mode: u32,
+    signs: u32,
+    words: &[u32],
     room: usize,
-) -> Place
+) -> usize
     requires { ⌜ room ≤ 3072 ⌝ }
 {
-    tester::fill(words, input, place.next);
-    let mode = tester::word(settings, 0);
-    let signs = tester::word(settings, 1);
     let mut buffer = [UNUSED; MOST];
-    let end = by_call(out, place.end, mode, signs, words, &mut buffer[0..room]);
+    let end = by_call(out, at, mode, signs, words, &mut buffer[0..room]);
     let mut other = [UNUSED; MOST];
-    Place {
-        next: tester::past(input, place.next, words.len()),
-        end: by_library(
-            out,
-            end,
-            tester::settings_word(mode, signs),
-            words,
-            &mut other[0..room],
-        ),
+    by_library(
+        out,
+        end,
+        tester::settings_word(mode, signs),
+        words,
+        &mut other[0..room],
+    )
+}
+
+fn from_car(out: &mut [u8], at: usize, car: Car, words: &[u32], room: usize) -> usize
+    requires { ⌜ room ≤ 3072 ⌝ }
+{
+    let mut buffer = [UNUSED; MOST];
+    by_car(out, at, car, words, &mut buffer[0..room])
+}
+
+fn from_source(source: Source, out: &mut [u8], at: usize, words: &[u32], room: usize) -> usize
+    requires { ⌜ room ≤ 3072 ⌝ }
+{
+    match source {
+        Source::Settings(mode, signs) => from_settings(out, at, mode, signs, words, room),
+        Source::Standing(car) => from_car(out, at, car, words, room),
     }
 }
 
-// A copy from a car.
-fn from_car(
+// A copy of the next words of the input.
+fn copy_words(
     place: Place,
+    source: Source,
     out: &mut [u8],
     input: &[u32],
-    car: Car,
     words: &mut [u32],
     room: usize,
 ) -> Place
     requires { ⌜ room ≤ 3072 ⌝ }
 {
     tester::fill(words, input, place.next);
-    let mut buffer = [UNUSED; MOST];
     Place {
         next: tester::past(input, place.next, words.len()),
-        end: by_car(out, place.end, car, words, &mut buffer[0..room]),
+        end: from_source(source, out, place.end, words, room),
     }
 }
 
-// Room and count stand behind the settings or the car.
-fn settings_case(place: Place, out: &mut [u8], input: &[u32]) -> Place {
-    let mut settings = [0; 2];
-    tester::fill(&mut settings, input, place.next);
-    let first = tester::past(input, place.next, 2);
-    let room = tester::size(input, first, MOST);
-    let second = tester::past(input, first, 1);
+// A copy whose room, count and words stand behind its source.
+fn copy_case(place: Place, source: Source, out: &mut [u8], input: &[u32]) -> Place {
+    let room = tester::size(input, place.next, MOST);
+    let second = tester::past(input, place.next, 1);
     let end = START + tester::size(input, second, MOST);
     let mut words = [0; 3075];
     let from = Place {
         next: tester::past(input, second, 1),
         end: place.end,
     };
-    from_settings(from, out, input, &settings, &mut words[START..end], room)
+    copy_words(from, source, out, input, &mut words[START..end], room)
+}
+
+fn settings_case(place: Place, out: &mut [u8], input: &[u32]) -> Place {
+    let mut settings = [0; 2];
+    tester::fill(&mut settings, input, place.next);
+    let behind = Place {
+        next: tester::past(input, place.next, 2),
+        end: place.end,
+    };
+    copy_case(
+        behind,
+        Source::Settings(settings[0], settings[1]),
+        out,
+        input,
+    )
 }
 
 fn car_case(place: Place, out: &mut [u8], input: &[u32]) -> Place {
     let car = tester::car_at(input, place.next);
-    let first = tester::past(input, place.next, 23);
-    let room = tester::size(input, first, MOST);
-    let second = tester::past(input, first, 1);
-    let end = START + tester::size(input, second, MOST);
-    let mut words = [0; 3075];
-    let from = Place {
-        next: tester::past(input, second, 1),
+    let behind = Place {
+        next: tester::past(input, place.next, 23),
         end: place.end,
     };
-    from_car(from, out, input, car, &mut words[START..end], room)
+    copy_case(behind, Source::Standing(car), out, input)
 }
 
 // What was made of a file: its refusal, and how many bytes its clean file has.
