@@ -558,12 +558,12 @@ impl Car {
 
     /// Acceleration a, first that fits.
     pub fn acceleration(&self) -> i32 {
-        let by_gas = self.gas * 10 / 375;
+        let by_gas = self.gas * 30 / 225;
         if self.key != Key::On {
             return 0;
         }
         if self.brake > 0 {
-            return if self.speed == 0 { 0 } else { -(self.brake * 10 / 375) };
+            return if self.speed == 0 { 0 } else { -(self.brake * 60 / 225) };
         }
         if !self.cruise {
             return by_gas.min(30);

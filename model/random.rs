@@ -62,7 +62,7 @@ fn edge_word(random: &mut Random) -> u32 {
     let content = match kind {
         1 | 2 => random.between(0, 7),
         3 => random.between(0, 3),
-        4 | 5 => random.near(&[0, 38, 90, 225, 255], 255),
+        4 | 5 => random.near(&[0, 4, 8, 90, 225, 255], 255),
         6 => random.near(&[0, 200, 2000, 5000, 8191], 8191),
         7 => random.near(&[0, 20, 25, 30], 31),
         8 => random.near(&[0, 200, 1200, 1300, 2000, 2047], 2047),
@@ -174,14 +174,14 @@ fn gas_word(random: &mut Random, car: &Car) -> u32 {
     if car.brake > 0 {
         return word(4, 0);
     }
-    word(5, if random.below(3) > 0 { 0 } else { random.near(&[37, 75, 90, 112, 225], 225) })
+    word(5, if random.below(3) > 0 { 0 } else { random.near(&[8, 75, 90, 112, 225], 225) })
 }
 
 fn brake_word(random: &mut Random, car: &Car) -> u32 {
     if car.gas > 0 {
         return word(5, 0);
     }
-    word(4, random.near(&[0, 0, 38, 150, 225], 225))
+    word(4, random.near(&[0, 0, 4, 150, 225], 225))
 }
 
 fn fore_back_word(random: &mut Random, car: &Car) -> u32 {
@@ -321,7 +321,7 @@ pub fn made_car(random: &mut Random) -> Car {
     car.hand_set = if random.once_in(2) { 0 } else { random.near(&[1200, 1600, 2000], 2000).max(1200) };
     make_cruise(random, &mut car);
     make_pedals(random, &mut car);
-    car.speed = random.near(&[0, 200, car.desired, car.desired + 40, 2000, 5000], 5000);
+    car.speed = random.near(&[0, 200, 216, car.desired, car.desired + 40, 2000, 5000], 5000);
     make_limiter(random, &mut car);
     make_radar(random, &mut car);
     car
@@ -346,8 +346,8 @@ fn make_cruise(random: &mut Random, car: &mut Car) {
 
 fn make_pedals(random: &mut Random, car: &mut Car) {
     match random.below(4) {
-        0 => car.gas = random.near(&[38, 90, 225], 225),
-        1 if !car.cruise => car.brake = random.near(&[38, 225], 225),
+        0 => car.gas = random.near(&[8, 90, 225], 225),
+        1 if !car.cruise => car.brake = random.near(&[4, 225], 225),
         _ => {}
     }
 }
@@ -356,7 +356,7 @@ fn make_limiter(random: &mut Random, car: &mut Car) {
     car.button = car.fore_back != ForeBack::Backward && random.once_in(2);
     car.limiter = car.button && car.gas <= 90 && random.below(3) > 0;
     if car.limiter {
-        car.limit = random.near(&[car.speed, car.speed + 36, 5000], 5000).max(car.speed);
+        car.limit = random.near(&[car.speed, car.speed + 36, car.speed + 43, 5000], 5000).max(car.speed);
     }
 }
 

@@ -418,9 +418,9 @@ impl Car {
         };
     }
 
-    /// After b or g changed. Neither pedal gives more than 6.
+    /// After b or g changed. The gas gives at most 30 by itself.
     fn set_pedal(&mut self) {
-        self.pedal = if self.b > 0 { -((self.b * 2 / 75) as i32) } else { (self.g * 2 / 75) as i32 };
+        self.pedal = if self.b > 0 { -((self.b * 4 / 15) as i32) } else { (self.g * 2 / 15) as i32 };
     }
 
     /// After key, P or Q changed.

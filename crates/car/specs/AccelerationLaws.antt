@@ -2,13 +2,14 @@
 -- Assumes nothing.
 use mathlib.Core.Bool.{true}
 use mathlib.Core.Path.{_≡_}
-use Prim.Native.Nat.{_≤_}
+use Prim.Native.Nat.{_+_, _≤_}
 use native.Mathlib.Omega.{arith}
-use Rattle.kit.specs.Bounds.{speedCeiling, mostUp, mostDown, mostRise, mostFall}
+use Rattle.kit.specs.Bounds.{speedCeiling, fullBrake, fullGas, mostRise, mostFall}
 use Rattle.kit.specs.Pick.{pick-case, pick-le}
 use Rattle.motion.specs.declared.Acceleration.{Acceleration}
-use Rattle.motion.specs.Acceleration.{target}
+use Rattle.motion.specs.Acceleration.{target, accelerationCode}
 use Rattle.motion.specs.AccelerationLaws.{Banded, Signed, banded-le, speeding-small, braked-small, coasting-small, backedOff-small, cruising-small, change-small, speeding-signed, braked-signed, coasting-signed, backedOff-signed, cruising-signed}
+use Rattle.motion.specs.SignedLaws.{code-le}
 use Rattle.motion.specs.Speed.{change}
 use Rattle.car.specs.declared.Car.{Car}
 use Rattle.car.specs.Acceleration.{targetOf, accelerationOf}
@@ -20,9 +21,9 @@ unfolding targetOf target
 target-le c r = let h = ceiling-le (c .settings) in pick-le _ _ _ _ (omega arith) (omega arith)
 
 abbrev Small : Acceleration → Type 0
-Small a = Banded mostDown mostUp a
+Small a = Banded fullBrake fullGas a
 
-pub acceleration-small : (c : Car) → Ranges c → Banded mostDown mostUp (accelerationOf c)
+pub acceleration-small : (c : Car) → Ranges c → Banded fullBrake fullGas (accelerationOf c)
 unfolding accelerationOf
 acceleration-small c r =
     pick-case Small _ _ _ (λ _. speeding-small 0 (omega arith))
@@ -31,9 +32,12 @@ acceleration-small c r =
     (λ _. pick-case Small _ _ _ (λ _. backedOff-small _)
     (λ _. cruising-small _ _ _))))
 
--- so that a + 60 is not below 0
+-- so that a + 60 is not below 0, nor above 90
 pub acceleration-size : (c : Car) → Ranges c → accelerationOf c .size ≤ 60
-acceleration-size c r = banded-le mostDown mostUp 60 _ (acceleration-small c r) (omega arith) (omega arith)
+acceleration-size c r = banded-le fullBrake fullGas 60 _ (acceleration-small c r) (omega arith) (omega arith)
+
+pub acceleration-code : (c : Car) → Ranges c → accelerationCode (accelerationOf c) ≤ 60 + fullGas
+acceleration-code c r = code-le _ (acceleration-small c r)
 
 -- a second's change
 pub change-size : (c : Car) → Ranges c → Banded mostFall mostRise (change (accelerationOf c))

@@ -1,4 +1,4 @@
--- Document 01, "Figures proved together", with the figures that document 02, §1 gives beside them: one table, checked by one fact.
+-- Document 01, "Figures proved together", with the figures that document 02, §1 and §3 give beside them: one table, checked by one fact.
 -- Assumes nothing.
 use mathlib.Core.Bool.{Bool, true, false}
 use mathlib.Core.Path.{_≡_, refl}
@@ -7,7 +7,7 @@ use Prim.Native.Nat.{ℕ}
 use lib.IntN.{ℤ, pos, negℤ}
 use Rattle.kit.specs.Pick.{pick}
 use Rattle.desired.specs.Desired.{up5, up7, down5, hundredBelow, down7, stepped, longHeld, held}
-use Rattle.motion.specs.Acceleration.{signed, speeding, slowing}
+use Rattle.motion.specs.Acceleration.{signed, speeding, slowing, brakeTerm, gasTerm, braked, coasting, eased, towards, pushed, urged, cruising}
 use Rattle.motion.specs.Speed.{change}
 use Rattle.car.specs.declared.Car.{Car}
 use Rattle.car.specs.Car.{ceilingOf}
@@ -53,7 +53,16 @@ answer b = pos (pick b 1 0)
 pub figures-together :
     signed (change (slowing 1))  -- a×36÷10 for −1,
     ∷ signed (change (speeding 6))  -- 6,
-    ∷ signed (change (slowing 30))  -- −30
+    ∷ signed (change (slowing 30))  -- −30,
+    ∷ signed (change (slowing 60))  -- full brake, −60,
+    ∷ signed (change (speeding 30))  -- full gas, 30
+    ∷ signed (braked 225 500)  -- brake at v 500: 225,
+    ∷ signed (braked 4 500)  -- 4,
+    ∷ signed (braked 3 500)  -- 3
+    ∷ signed (coasting 225)  -- gas, cruise off: 225,
+    ∷ signed (coasting 8)  -- 8,
+    ∷ signed (coasting 7)  -- 7;
+    ∷ signed (cruising 225 500 400)  -- cruise on, v 500, X 400: 225
     ∷ pos (stepped 2000 2 570)  -- up7 from 570
     ∷ pos (stepped 2000 4 570)  -- down7 from 570;
     ∷ pos (stepped 2000 4 500)  -- from 500;
@@ -69,7 +78,10 @@ pub figures-together :
     ∷ answer (visual (behind 19 300))  -- visual at v 500: R 19,
     ∷ answer (visual (behind 20 300))  -- 20
     ∷ []
-    ≡ negℤ (pos 3) ∷ pos 21 ∷ negℤ (pos 108)
+    ≡ negℤ (pos 3) ∷ pos 21 ∷ negℤ (pos 108) ∷ negℤ (pos 216) ∷ pos 108
+    ∷ negℤ (pos 60) ∷ negℤ (pos 1) ∷ pos 0
+    ∷ pos 30 ∷ pos 1 ∷ pos 0
+    ∷ pos 30
     ∷ pos 600
     ∷ pos 500 ∷ pos 400 ∷ pos 10
     ∷ pos 2000
@@ -78,5 +90,5 @@ pub figures-together :
     ∷ pos 27
     ∷ pos 1 ∷ pos 0
     ∷ []
-unfolding signed change speeding slowing stepped up5 up7 down5 hundredBelow down7 held longHeld secureDistance metres visual within ahead ticked tickDesired holdDesired ceilingOf pick
+unfolding signed change speeding slowing brakeTerm braked gasTerm coasting eased towards pushed urged cruising stepped up5 up7 down5 hundredBelow down7 held longHeld secureDistance metres visual within ahead ticked tickDesired holdDesired ceilingOf pick
 figures-together = refl

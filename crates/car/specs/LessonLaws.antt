@@ -17,7 +17,6 @@ use Rattle.event.specs.Words.{inputKind, readOf}
 use Rattle.event.specs.WordLaws.{refused-number}
 use Rattle.checks.specs.CheckLaws.{keyOn-le, key-le, updown-le, foreback-le, pedal-le, button-le, radar-le, tick-le}
 use Rattle.answer.specs.AnswerWord.{Fits}
-use Rattle.motion.specs.SignedLaws.{code-le}
 use Rattle.car.specs.declared.Car.{Car}
 use Rattle.car.specs.Checks.{ownCheck, inputCheck, eventCheck}
 use Rattle.car.specs.Drive.{readingCheck, checkOf, stepOf}
@@ -26,7 +25,7 @@ use Rattle.car.specs.Good.{goodOf}
 use Rattle.car.specs.GoodLaws.{ceiling-le}
 use Rattle.car.specs.Standing.{Ranges}
 use Rattle.car.specs.Acceleration.{accelerationOf}
-use Rattle.car.specs.AccelerationLaws.{acceleration-size}
+use Rattle.car.specs.AccelerationLaws.{acceleration-code}
 use Rattle.car.specs.Lesson.{answering, driven, eachOf, acceptedOf, refusedOf}
 use Rattle.car.specs.StepLaws.{step-refusal, step-good}
 
@@ -66,7 +65,7 @@ unfolding answering
 answering-fits d h r =
     record {
       refusal = h;
-      acceleration = code-le (accelerationOf (d .car)) (acceleration-size (d .car) r);
+      acceleration = omega (arith, acceleration-code (d .car) r);
       desired = omega (arith, r .desired, ceiling-le (d .car .settings));
     }
 

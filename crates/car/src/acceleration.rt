@@ -29,18 +29,19 @@ fn slowing(size: u32) -> u32
     60 - size
 }
 
+// b×60÷225 and g×30÷225, in lowest terms: an instruction less for each.
 fn brake_term(brake: u32) -> u32
     requires { ⌜ brake ≤ pedalCeiling ⌝ }
     ensures { λ r. ⌜ r ≡ brakeTerm brake ⌝ }
 {
-    brake * 10 / 375
+    brake * 4 / 15
 }
 
 fn gas_term(gas: u32) -> u32
     requires { ⌜ gas ≤ pedalCeiling ⌝ }
     ensures { λ r. ⌜ r ≡ gasTerm gas ⌝ }
 {
-    gas * 10 / 375
+    gas * 2 / 15
 }
 
 fn braked(brake: u32, speed: u32) -> u32
@@ -53,11 +54,12 @@ fn braked(brake: u32, speed: u32) -> u32
     slowing(brake_term(brake))
 }
 
+// The gas term of a pedal in its range is at most 30 already, here and in `urged`.
 fn coasting(gas: u32) -> u32
     requires { ⌜ gas ≤ pedalCeiling ⌝ }
     ensures { λ r. ⌜ r ≡ accelerationCode (coasting gas) ⌝ }
 {
-    speeding(least(30, gas_term(gas)))
+    speeding(gas_term(gas))
 }
 
 // A tenth of a difference of speeds in m/s, at least 1.
@@ -90,7 +92,7 @@ fn urged(gas: u32, s: u32) -> u32
     if gas == 0 {
         return s;
     }
-    60 + most(least(30, gas_term(gas)), less(s, 60))
+    60 + most(gas_term(gas), less(s, 60))
 }
 
 impl Car {

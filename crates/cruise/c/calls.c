@@ -5,8 +5,8 @@
 
 #include <stdio.h>
 
-#if CRUISE_VERSION < 0x000200 || CRUISE_VERSION >= 0x010000
-#error "calls.c is for version 0.2 and those that keep to it"
+#if CRUISE_VERSION < 0x000300 || CRUISE_VERSION >= 0x010000
+#error "calls.c is for version 0.3 and those that keep to it"
 #endif
 
 /* What a buffer holds before a call, and the words round it always. */
@@ -67,8 +67,8 @@ static void left(int line, const char *what, const struct area *area, const uint
 /* Records, by the document's layout. A fresh car of mode 1, signs 0. */
 static const uint32_t fresh[WORDS] = {0xB0000001, 0xB1000000, 0xB2000000, 0xB3000000, 0xB4000000, 0xB5000000,
                                       0xB6000000, 0xB70000FF, 0xB8000000, 0xB9000014, 0xBA000000, 0xBB000000};
-/* The car after the document's listing: key on, M forward, g 225, C, P, v 42, D 21, R 0, now 2. */
-static const uint32_t listed[WORDS] = {0xB0003111, 0xB100E100, 0xB200002A, 0xB3000000, 0xB4000015, 0xB5000000,
+/* The car after the document's listing: key on, M forward, g 225, C, P, v 216, D 108, R 0, now 2. */
+static const uint32_t listed[WORDS] = {0xB0003111, 0xB100E100, 0xB20000D8, 0xB3000000, 0xB400006C, 0xB5000000,
                                        0xB6000000, 0xB7000000, 0xB8000000, 0xB9000014, 0xBA000002, 0xBB000000};
 /* The car of the document's figures: mode 2, key on, C, P, v 500, D 900, R 19, W 300, G 20. */
 static const uint32_t behind[WORDS] = {0xB0003012, 0xB1000000, 0xB20001F4, 0xB3000000, 0xB4000384, 0xB5000000,
@@ -83,8 +83,8 @@ static const uint32_t listing[10] = {0x10000001, 0x10000006, 0x500000E1, 0xA0000
 static const struct {
     uint32_t refusal, speed, desired;
     int32_t acceleration;
-} lines[10] = {{0, 0, 0, 0},  {0, 0, 0, 0},   {0, 0, 0, 6},   {0, 21, 0, 6},  {9, 21, 0, 6},
-               {0, 21, 21, 6}, {8, 21, 21, 6}, {0, 21, 21, 6}, {0, 21, 21, 6}, {0, 42, 21, 6}};
+} lines[10] = {{0, 0, 0, 0},      {0, 0, 0, 0},      {0, 0, 0, 30},     {0, 108, 0, 30},   {9, 108, 0, 30},
+               {0, 108, 108, 30}, {8, 108, 108, 30}, {0, 108, 108, 30}, {0, 108, 108, 30}, {0, 216, 108, 30}};
 
 static void copy(uint32_t *to, const uint32_t *from)
 {
@@ -254,8 +254,9 @@ static void answer(uint32_t word, uint32_t refusal, uint32_t visual, uint32_t ac
 static void fields(void)
 {
     answer(0xC0001E05, 5, 0, 0, 0, 0);
-    answer(0xC0002080, 0, 0, 0, 5, 0);
-    answer(0xC0CA9F0F, 15, 0, 0, 2, 810);
+    answer(0xC0002A00, 0, 0, 0, 24, 0);
+    answer(0xC1F42805, 5, 0, 0, 20, 2000);
+    answer(0xC0000380, 0, 0, 0, -53, 0);
     answer(0xC0E10F63, 3, 1, 1, -30, 900);
     answer(0xC0E10F20, 0, 1, 0, -30, 900);
     answer(0xC0E11280, 0, 0, 0, -23, 900);
@@ -342,69 +343,138 @@ static void the_listing(void)
     }
 }
 
-/* Outside: the list of calls from its start, and a lesson further on. */
+/* Outside: a list of calls with gas 180, from its fresh car on. */
 static void the_list(void)
 {
-    static const uint32_t third[WORDS] = {0xB000000D, 0xB1000000, 0xB2000000, 0xB3000000, 0xB4000000, 0xB5000000,
-                                          0xB6000000, 0xB70000FF, 0xB8000000, 0xB9000014, 0xBA000000, 0xBB000000};
-    static const uint32_t eleventh[WORDS] = {0xB0002015, 0xB100CB00, 0xB2000024, 0xB3000000, 0xB4000000, 0xB5000000,
-                                             0xB6000000, 0xB7000000, 0xB8000000, 0xB9000014, 0xBA000002, 0xBB000000};
-    static const uint32_t seventh_words[4] = {0x30000000, 0x40000000, 0x500000CB, 0xA0000001};
-    static const uint32_t seventh[4] = {0xC0001E05, 0xC0001E05, 0xC0002080, 0xC0002080};
-    static const uint32_t ticks[3] = {0xA0000001, 0xA0000001, 0xA0000001};
-    static const uint32_t before[WORDS] = {0xB0003115, 0xB1005A00, 0xB2000331, 0xB3000000, 0xB400032A, 0xB5000000,
-                                           0xB6000000, 0xB700004D, 0xB8000000, 0xB9000014, 0xBA00002E, 0xBB000000};
-    static const uint32_t later_words[6] = {0x800001F4, 0xA0000001, 0x90000048, 0x20000000, 0xA0000001, 0x90000000};
-    static const uint32_t later[6] = {0xC0CA9F00, 0xC0CA9F00, 0xC0CA9F00, 0xC0CA9F05, 0xC0CA9F00, 0xC0CA9F00};
-    static const uint32_t after[WORDS] = {0xB0003115, 0xB1005A00, 0xB200033F, 0xB3000000, 0xB400032A, 0xB5000000,
-                                          0xB6000000, 0xB7000000, 0xB8000000, 0xB9000014, 0xBA000030, 0xBB000000};
-    /* a car with both warnings: a word that 3 refuses, then a tick */
-    static const uint32_t warned[WORDS] = {0xB0003412, 0xB1000000, 0xB20001F4, 0xB30000CE, 0xB425EB84, 0xB5000000,
-                                           0xB6000000, 0xB707D00A, 0xB80001AA, 0xB9000019, 0xBA01418B, 0xBB01418B};
-    static const uint32_t warned_after[WORDS] = {0xB0003412, 0xB1000000, 0xB2000188, 0xB30000CE, 0xB425EB84, 0xB5000000,
-                                                 0xB6000000, 0xB707D00A, 0xB80001AA, 0xB9000019, 0xBA01418C, 0xBB01418B};
-    static const uint32_t warned_words[2] = {0x500000FF, 0xA0000001};
-    static const uint32_t warned_answers[2] = {0xC0E10F63, 0xC0E10F20};
-    struct area record, answers, given;
+    static const uint32_t first_words[7] = {0x10000001, 0x10000006, 0x20000000, 0x30000000, 0x40000000, 0x500000B4, 0xA0000001};
+    static const uint32_t first[7] = {0xC0001E00, 0xC0001E00, 0xC0001E05, 0xC0001E05, 0xC0001E05, 0xC0002A00, 0xC0002A00};
+    static const uint32_t ticks[7] = {0xA0000001, 0xA0000001, 0xA0000001, 0xA0000001, 0xA0000001, 0xA0000001, 0xA0000001};
+    static const uint32_t shown[4] = {0xC0002A00, 0xC0002A00, 0xC0002A00, 0xC0002A00};
+    static const uint32_t second[WORDS] = {0xB0002015, 0xB100B400, 0xB2000056, 0xB3000000, 0xB4000000, 0xB5000000,
+                                           0xB6000000, 0xB7000000, 0xB8000000, 0xB9000014, 0xBA000001, 0xBB000000};
+    static const uint32_t eighth[WORDS] = {0xB0002015, 0xB100B400, 0xB2000408, 0xB3000000, 0xB4000000, 0xB5000000,
+                                           0xB6000000, 0xB7000000, 0xB8000000, 0xB9000014, 0xBA00000C, 0xBB000000};
+    static const uint32_t fifteenth[WORDS] = {0xB0002015, 0xB100B400, 0xB200050A, 0xB3000000, 0xB4000000, 0xB5000000,
+                                              0xB6000000, 0xB7000000, 0xB8000000, 0xB9000014, 0xBA00000F, 0xBB000000};
+    struct area record, answers;
     size_t accepted = 77, refused = 77;
     uint32_t *at = lay(&record, NULL, 0);
     EQUAL(cruise_fresh(0xD0000005, at, WORDS), 0);
-    EQUAL(cruise_drive(at, WORDS, 0x10000001), 0);
-    LEFT(record, third, WORDS);
-    EQUAL(cruise_drive(at, WORDS, 0x10000006), 0);
-    EQUAL(cruise_drive(at, WORDS, 0x20000000), 5);
-    EQUAL(cruise_lesson(at, WORDS, seventh_words, 4, lay(&answers, NULL, 0), 5, &accepted, &refused), 0);
-    EQUAL(accepted, 2);
-    EQUAL(refused, 2);
-    LEFT(answers, seventh, 4);
+    EQUAL(cruise_lesson(at, WORDS, first_words, 7, lay(&answers, NULL, 0), 10, &accepted, &refused), 0);
+    EQUAL(accepted, 4);
+    EQUAL(refused, 3);
+    LEFT(answers, first, 7);
+    LEFT(record, second, WORDS);
+    EQUAL(cruise_lesson(at, WORDS, ticks, 2, lay(&answers, NULL, 0), 2, &accepted, &refused), 0);
+    LEFT(answers, shown, 2);
+    EQUAL(cruise_lesson(at, WORDS, ticks, 4, lay(&answers, NULL, 0), 5, &accepted, &refused), 0);
+    EQUAL(accepted, 4);
+    EQUAL(refused, 0);
+    LEFT(answers, shown, 4);
     EQUAL(cruise_drive(at, WORDS, 0xA0000001), 0);
-    LEFT(record, eleventh, WORDS);
+    EQUAL(cruise_drive(at, WORDS, 0xA0000001), 0);
+    EQUAL(cruise_lesson(at, WORDS, ticks, 2, lay(&answers, NULL, 0), 2, &accepted, &refused), 0);
+    EQUAL(cruise_drive(at, WORDS, 0xA0000001), 0);
+    LEFT(record, eighth, WORDS);
     accepted = refused = 77;
-    EQUAL(cruise_lesson(at, WORDS, ticks, 3, lay(&answers, NULL, 0), 2, &accepted, &refused), CRUISE_SHORT_ANSWERS);
+    EQUAL(cruise_lesson(at, WORDS, ticks, 7, lay(&answers, NULL, 0), 5, &accepted, &refused), CRUISE_SHORT_ANSWERS);
     EQUAL(accepted, 0);
     EQUAL(refused, 0);
     LEFT(answers, NULL, 0);
-    LEFT(record, eleventh, WORDS);
+    LEFT(record, eighth, WORDS);
     accepted = refused = 77;
     EQUAL(cruise_lesson(at, WORDS, ticks, 1, NULL, 0, &accepted, &refused), CRUISE_SHORT_ANSWERS);
     EQUAL(accepted, 0);
     EQUAL(refused, 0);
-    LEFT(record, eleventh, WORDS);
+    LEFT(record, eighth, WORDS);
+    for (int i = 0; i < 3; i++) {
+        EQUAL(cruise_drive(at, WORDS, 0xA0000001), 0);
+    }
+    LEFT(record, fifteenth, WORDS);
+}
 
-    at = lay(&record, before, WORDS);
-    EQUAL(cruise_lesson(at, WORDS, lay(&given, later_words, 6), 6, lay(&answers, NULL, 0), 9, &accepted, &refused), 0);
-    EQUAL(accepted, 5);
-    EQUAL(refused, 1);
-    LEFT(answers, later, 6);
-    LEFT(given, later_words, 6);
-    LEFT(record, after, WORDS);
+/* A lesson of a car: the words, answers and counts, and the record afterwards. */
+static void taught_is(int line, const uint32_t *car, const uint32_t *words, const uint32_t *answers, size_t count, size_t accepted,
+                      const uint32_t *after)
+{
+    struct area record, given, answered;
+    size_t got[2] = {77, 77};
+    uint32_t *at = lay(&record, car, WORDS);
+    equal(line, "cruise_lesson",
+          cruise_lesson(at, WORDS, lay(&given, words, count), count, lay(&answered, NULL, 0), count + 1, &got[0], &got[1]), CRUISE_ACCEPTED);
+    equal(line, "accepted", (long long)got[0], (long long)accepted);
+    equal(line, "refused", (long long)got[1], (long long)(count - accepted));
+    left(line, "answers", &answered, answers, count);
+    left(line, "words", &given, words, count);
+    left(line, "record", &record, after, WORDS);
+}
 
-    at = lay(&record, warned, WORDS);
-    EQUAL(cruise_lesson(at, WORDS, warned_words, 2, lay(&answers, NULL, 0), 2, &accepted, &refused), 0);
-    EQUAL(accepted, 1);
-    EQUAL(refused, 1);
-    LEFT(answers, warned_answers, 2);
-    LEFT(record, warned_after, WORDS);
+/* Outside: lessons of cars further on. */
+static void later_lessons(void)
+{
+    /* gas 153, then 160, with cruise on */
+    static const uint32_t urged[WORDS] = {0xB0003015, 0xB1009900, 0xB2001170, 0xB3000000, 0xB43E87D0, 0xB5000000,
+                                          0xB6000000, 0xB7000000, 0xB8000000, 0xB9000014, 0xBA00003E, 0xBB000000};
+    static const uint32_t urged_words[5] = {0x20000000, 0x30000000, 0x40000000, 0x500000A0, 0xA0000001};
+    static const uint32_t urged_answers[5] = {0xC1F42805, 0xC1F42805, 0xC1F42805, 0xC1F42880, 0xC1F42880};
+    static const uint32_t urged_after[WORDS] = {0xB0003015, 0xB100A000, 0xB20011BB, 0xB3000000, 0xB43E87D0, 0xB5000000,
+                                                0xB6000000, 0xB7000000, 0xB8000000, 0xB9000014, 0xBA00003F, 0xBB000000};
+    /* brake 201, two ticks */
+    static const uint32_t braked[WORDS] = {0xB0002C32, 0xB10000C9, 0xB2001386, 0xB3001388, 0xB427EA58, 0xB5000000,
+                                           0xB6000000, 0xB700C71B, 0xB8000000, 0xB9000014, 0xBA015008, 0xBB015008};
+    static const uint32_t braked_words[2] = {0xA0000001, 0xA0000001};
+    static const uint32_t braked_answers[2] = {0xC0000380, 0xC0000380};
+    static const uint32_t braked_after[WORDS] = {0xB0002C32, 0xB10000C9, 0xB200120A, 0xB3001388, 0xB427E800, 0xB5000000,
+                                                 0xB6000000, 0xB700C71B, 0xB8000000, 0xB9000014, 0xBA01500A, 0xBB015008};
+    /* both warnings: a word that 3 refuses, then a tick */
+    static const uint32_t warned[WORDS] = {0xB0003412, 0xB1000000, 0xB20001F4, 0xB30000CE, 0xB425EB84, 0xB5000000,
+                                           0xB6000000, 0xB707D00A, 0xB80001AA, 0xB9000019, 0xBA01418B, 0xBB01418B};
+    static const uint32_t warned_words[2] = {0x500000FF, 0xA0000001};
+    static const uint32_t warned_answers[2] = {0xC0E10F63, 0xC0E10F20};
+    static const uint32_t warned_after[WORDS] = {0xB0003412, 0xB1000000, 0xB2000188, 0xB30000CE, 0xB425EB84, 0xB5000000,
+                                                 0xB6000000, 0xB707D00A, 0xB80001AA, 0xB9000019, 0xBA01418C, 0xBB01418B};
+    taught_is(__LINE__, urged, urged_words, urged_answers, 5, 2, urged_after);
+    taught_is(__LINE__, braked, braked_words, braked_answers, 2, 2, braked_after);
+    taught_is(__LINE__, warned, warned_words, warned_answers, 2, 1, warned_after);
+}
+
+/* Document 02, 3: full brake is -60, full gas 30 with cruise off and on; a second takes v down by 216 and up by 108, not below 0. */
+static void pedals(void)
+{
+    static const struct {
+        uint32_t flags, pedals, speed, desired;
+        int32_t acceleration;
+        uint32_t after;
+    } cases[] = {
+        {0xB0002011, 0xB10000E1, 500, 0, -60, 284},  /* full brake */
+        {0xB0002011, 0xB10000E1, 216, 0, -60, 0},
+        {0xB0002011, 0xB10000E1, 1, 0, -60, 0},
+        {0xB0002011, 0xB10000E1, 0, 0, 0, 0},        /* at rest */
+        {0xB0002011, 0xB1000003, 500, 0, 0, 500},    /* brake 3, 4 */
+        {0xB0002011, 0xB1000004, 500, 0, -1, 497},
+        {0xB0002011, 0xB100E100, 0, 0, 30, 108},     /* full gas, cruise off */
+        {0xB0002011, 0xB1000700, 500, 0, 0, 500},    /* gas 7, 8 */
+        {0xB0002011, 0xB1000800, 500, 0, 1, 503},
+        {0xB0003011, 0xB100E100, 500, 400, 30, 608}, /* full gas, cruise on, above D and below it */
+        {0xB0003011, 0xB100E100, 500, 900, 30, 608},
+    };
+    struct area record;
+    for (size_t i = 0; i < sizeof cases / sizeof cases[0]; i++) {
+        uint32_t car[WORDS];
+        uint32_t *at;
+        copy(car, listed);
+        car[0] = cases[i].flags;
+        car[1] = cases[i].pedals;
+        car[2] = 0xB2000000u | cases[i].speed;
+        car[4] = 0xB4000000u | cases[i].desired;
+        at = lay(&record, car, WORDS);
+        dials(__LINE__, at, WORDS, 0, cases[i].speed, cases[i].desired, cases[i].acceleration, 0, 0,
+              cases[i].speed == 0 ? 2 : 25 * cases[i].speed / 360);
+        EQUAL(cruise_drive(at, WORDS, 0xA0000001), CRUISE_ACCEPTED);
+        car[2] = 0xB2000000u | cases[i].after;
+        car[10] = 0xBA000003;
+        LEFT(record, car, WORDS);
+    }
 }
 
 /* Lessons of no words, and answer buffers of every length up to past the lesson's. */
@@ -538,8 +608,8 @@ static void refusals(void)
         {CRUISE_BUTTON_IN, 0x600003E8, 3, {0x10000001, 0x10000006, 0x600003E8}},
         {CRUISE_BUTTON_WHILE_BACKWARD, 0x600003E8, 3, {0x10000001, 0x10000006, 0x30000002}},
         {CRUISE_BUTTON_WHILE_GAS, 0x600003E8, 3, {0x10000001, 0x10000006, 0x5000005B}},
-        {CRUISE_ABOVE_LIMIT, 0x60000014, 5, {0x10000001, 0x10000006, 0x500000E1, 0xA0000001, 0x50000000}}, /* v 21, limit 20 */
-        {CRUISE_ACCEPTED, 0x60000015, 5, {0x10000001, 0x10000006, 0x500000E1, 0xA0000001, 0x50000000}},
+        {CRUISE_ABOVE_LIMIT, 0x6000006B, 5, {0x10000001, 0x10000006, 0x500000E1, 0xA0000001, 0x50000000}}, /* v 108, limit 107 */
+        {CRUISE_ACCEPTED, 0x6000006C, 5, {0x10000001, 0x10000006, 0x500000E1, 0xA0000001, 0x50000000}},
         {CRUISE_RADAR_NOT_READY, 0x90000001, 2, {0x10000001, 0x10000002}},
         {CRUISE_READY_BIT, 0x10000005, 0, {0}},
         {CRUISE_READY_BIT, 0xA0000001, 0, {0}},
@@ -731,6 +801,8 @@ int main(void)
     fresh_cars();
     the_listing();
     the_list();
+    later_lessons();
+    pedals();
     lessons();
     copies();
     refusals();

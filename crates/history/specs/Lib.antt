@@ -5,3 +5,4 @@ pub mod HistoryLaws
 pub mod AcceptedLaws
 pub mod BandLaws
 pub mod WarningLaws
+pub mod PedalsUpLaws

@@ -1,5 +1,5 @@
 -- What neighbouring cars show, those before and after one word: document 01, "Standing rules": (b) "between neighbouring cars neither
--- passes neutral unseen", (g) "A tick moves v by at most 108".
+-- passes neutral unseen", (g) a tick moves v "up by at most 108, down by at most 216" (document 02, §3).
 -- Assumes nothing.
 use mathlib.Core.Bool.{Bool, true, false}
 use mathlib.Core.Path.{_≡_}
@@ -40,7 +40,7 @@ pub record Neighbouring (tick : Bool) (c d : Car) : Type 0 where
   -- (b) M: between forward and backward
   pub forward-backward : c .levers .foreback ≡ 1 → d .levers .foreback ≡ 2 → ⊥
   pub backward-forward : c .levers .foreback ≡ 2 → d .levers .foreback ≡ 1 → ⊥
-  -- (g) "A tick moves v by at most 108", and no other word moves it
+  -- (g) a tick moves v "up by at most 108, down by at most 216", and no other word moves it
   pub speed-tick : tick ≡ true → (d .speed ≤ c .speed + mostRise) × (c .speed ≤ d .speed + mostFall)
   pub speed-other : tick ≡ false → d .speed ≡ c .speed
 

@@ -19,16 +19,16 @@ lessonLength = 86400
 abbrev pub testPeriod : ℕ
 testPeriod = 600
 
--- the most that a can be, up and down
-abbrev pub mostUp : ℕ
-mostUp = 30
+-- full brake is −60 and full gas 30 (document 02, §3): the most that a can be, down and up
+abbrev pub fullBrake : ℕ
+fullBrake = 60
 
-abbrev pub mostDown : ℕ
-mostDown = 30
+abbrev pub fullGas : ℕ
+fullGas = 30
 
 -- (g) the most by which a tick moves v, up and down
 abbrev pub mostRise : ℕ
 mostRise = 108
 
 abbrev pub mostFall : ℕ
-mostFall = 108
+mostFall = 216

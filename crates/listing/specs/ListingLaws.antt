@@ -79,12 +79,13 @@ past-within out at most text e h s = rw e (pick-case (λ (n : ℕ). n ≤ length
 
 -- ---- the document's own listing
 
--- lines 1, 4, 5, 7 and 10 of the printed listing
+-- lines 1, 4, 5, 7 and 10 of the printed listing, and one at full brake, where the code of a is 0
 pub printed-lines :
-    (lineOf 1 3221233152 0 ≡ 49 ∷ 32 ∷ 48 ∷ 32 ∷ 48 ∷ 32 ∷ 48 ∷ 32 ∷ 48 ∷ 32 ∷ 48 ∷ 32 ∷ 48 ∷ 10 ∷ [])
-    × (lineOf 4 3221233920 21 ≡ 52 ∷ 32 ∷ 48 ∷ 32 ∷ 50 ∷ 49 ∷ 32 ∷ 48 ∷ 32 ∷ 54 ∷ 32 ∷ 48 ∷ 32 ∷ 48 ∷ 10 ∷ [])
-    × (lineOf 5 3221233929 21 ≡ 53 ∷ 32 ∷ 57 ∷ 32 ∷ 50 ∷ 49 ∷ 32 ∷ 48 ∷ 32 ∷ 54 ∷ 32 ∷ 48 ∷ 32 ∷ 48 ∷ 10 ∷ [])
-    × (lineOf 7 3221577992 21 ≡ 55 ∷ 32 ∷ 56 ∷ 32 ∷ 50 ∷ 49 ∷ 32 ∷ 50 ∷ 49 ∷ 32 ∷ 54 ∷ 32 ∷ 48 ∷ 32 ∷ 48 ∷ 10 ∷ [])
-    × (lineOf 10 3221577984 42 ≡ 49 ∷ 48 ∷ 32 ∷ 48 ∷ 32 ∷ 52 ∷ 50 ∷ 32 ∷ 50 ∷ 49 ∷ 32 ∷ 54 ∷ 32 ∷ 48 ∷ 32 ∷ 48 ∷ 10 ∷ [])
-unfolding answerLine readOf bitOf fieldOf signedOf warningsOf decimalOf decimalIn pick
-printed-lines = (refl, refl, refl, refl, refl)
+    (lineOf 1 3221233152 0 ≡ ascii "1 0 0 0 0 0 0\n")
+    × (lineOf 4 3221236992 108 ≡ ascii "4 0 108 0 30 0 0\n")
+    × (lineOf 5 3221237001 108 ≡ ascii "5 9 108 0 30 0 0\n")
+    × (lineOf 7 3223006472 108 ≡ ascii "7 8 108 108 30 0 0\n")
+    × (lineOf 10 3223006464 216 ≡ ascii "10 0 216 108 30 0 0\n")
+    × (lineOf 1063 3221225472 1178 ≡ ascii "1063 0 1178 0 -60 0 0\n")
+unfolding answerLine readOf bitOf fieldOf signedOf warningsOf decimalOf decimalIn ascii pick
+printed-lines = (refl, refl, refl, refl, refl, refl)

@@ -5,6 +5,7 @@ use mathlib.Core.Bool.{Bool, false}
 use Prim.Native.Nat.{ℕ, _+_, _-_, _*_, _/_, min, max}
 use lib.Dec.{eqb, ltb}
 use lib.IntN.{ℤ, pos, negℤ}
+use Rattle.kit.specs.Bounds.{pedalCeiling, fullBrake, fullGas}
 use Rattle.kit.specs.Pick.{pick}
 use Rattle.motion.specs.declared.Acceleration.{Acceleration}
 
@@ -19,17 +20,18 @@ speeding n = record { slows = false; size = n }
 unfoldable pub slowing : ℕ → Acceleration
 slowing n = record { slows = ltb 0 n; size = n }
 
+-- "b×60÷225", "g×30÷225"
 unfoldable pub brakeTerm : ℕ → ℕ
-brakeTerm b = b * 10 / 375
+brakeTerm b = b * fullBrake / pedalCeiling
 
 unfoldable pub gasTerm : ℕ → ℕ
-gasTerm g = g * 10 / 375
+gasTerm g = g * fullGas / pedalCeiling
 
--- "b > 0: 0 if v = 0, else −(b×10÷375)"
+-- "b > 0: 0 if v = 0, else −(b×60÷225)"
 unfoldable pub braked : ℕ → ℕ → Acceleration
 braked b v = pick (eqb v 0) (speeding 0) (slowing (brakeTerm b))
 
--- "C = 0: min(30, g×10÷375)"
+-- "C = 0: min(30, g×30÷225)"
 unfoldable pub coasting : ℕ → Acceleration
 coasting g = speeding (min 30 (gasTerm g))
 
@@ -51,11 +53,11 @@ towards v x =
     (pick (ltb x v) (slowing (eased 30 (v - x)))
     (speeding 0))
 
--- "min(30, max(g×10÷375, s))": the larger is the term where s is below 0
+-- "min(30, max(g×30÷225, s))": the larger is the term where s is below 0
 unfoldable pub pushed : ℕ → Acceleration → Acceleration
 pushed term s = pick (s .slows) (speeding (min 30 term)) (speeding (min 30 (max term (s .size))))
 
--- "then a = s if g = 0, else min(30, max(g×10÷375, s))"
+-- "then a = s if g = 0, else min(30, max(g×30÷225, s))"
 unfoldable pub urged : ℕ → Acceleration → Acceleration
 urged g s = pick (eqb g 0) s (pushed (gasTerm g) s)
 

@@ -5,11 +5,11 @@ use mathlib.Core.Path.{_≡_, sym}
 use Prim.Native.Nat.{ℕ, _≤_, _*_, _/_}
 use native.Mathlib.Omega.{arith}
 use lib.Dec.{ltb}
-use borrow.Author.Tests.{ltb-true}
-use Rattle.kit.specs.Bounds.{pedalCeiling, mostUp, mostDown, mostRise, mostFall}
+use borrow.Author.Tests.{ltb-true, ltb-false}
+use Rattle.kit.specs.Bounds.{pedalCeiling, fullBrake, fullGas, mostRise, mostFall}
 use Rattle.kit.specs.Pick.{pick, pick-le, le-pick, pick-case}
 use Rattle.motion.specs.declared.Acceleration.{Acceleration}
-use Rattle.motion.specs.Acceleration.{speeding, slowing, brakeTerm, braked, coasting, backedOff, eased, towards, pushed, urged, cruising}
+use Rattle.motion.specs.Acceleration.{speeding, slowing, brakeTerm, gasTerm, braked, coasting, backedOff, eased, towards, pushed, urged, cruising}
 use Rattle.motion.specs.Speed.{change}
 
 -- ---- a size within the band of its sign
@@ -20,19 +20,23 @@ pub banded-le : (down up k : ℕ) (a : Acceleration) → Banded down up a → do
 banded-le down up k a h d u = omega (arith, pick-le (a .slows) down up k d u)
 
 abbrev Small : Acceleration → Type 0
-Small a = Banded mostDown mostUp a
+Small a = Banded fullBrake fullGas a
 
-pub speeding-small : (n : ℕ) → n ≤ mostUp → Small (speeding n)
+pub speeding-small : (n : ℕ) → n ≤ fullGas → Small (speeding n)
 unfolding speeding pick
 speeding-small n h = h
 
-slowing-small : (n : ℕ) → n ≤ mostDown → Small (slowing n)
+slowing-small : (n : ℕ) → n ≤ fullBrake → Small (slowing n)
 unfolding slowing
-slowing-small n h = le-pick (ltb 0 n) mostDown mostUp n h (omega arith)
+slowing-small n h = pick-case (λ (k : ℕ). n ≤ k) (ltb 0 n) _ _ (λ _. h) (λ t. let z = ltb-false 0 n t in omega arith)
 
-pub brakeTerm-le : (b : ℕ) → b ≤ pedalCeiling → brakeTerm b ≤ mostDown
+pub brakeTerm-le : (b : ℕ) → b ≤ pedalCeiling → brakeTerm b ≤ fullBrake
 unfolding brakeTerm
 brakeTerm-le b h = omega arith
+
+pub gasTerm-le : (g : ℕ) → g ≤ pedalCeiling → gasTerm g ≤ fullGas
+unfolding gasTerm
+gasTerm-le g h = omega arith
 
 pub braked-small : (b v : ℕ) → b ≤ pedalCeiling → Small (braked b v)
 unfolding braked
@@ -61,7 +65,7 @@ unfolding cruising urged
 cruising-small g v x = pick-case Small _ _ _ (λ _. towards-small v x) (λ _. pushed-small _ (towards v x))
 
 -- a second's change
-change-of : (slows : Bool) (n : ℕ) → n ≤ pick slows mostDown mostUp → n * 36 / 10 ≤ pick slows mostFall mostRise
+change-of : (slows : Bool) (n : ℕ) → n ≤ pick slows fullBrake fullGas → n * 36 / 10 ≤ pick slows mostFall mostRise
 unfolding pick
 change-of true n h = omega arith
 change-of false n h = omega arith

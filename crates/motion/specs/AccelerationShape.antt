@@ -15,9 +15,10 @@ decoded code = record { slows = ltb code 60; size = (60 - code) + (code - 60) }
 unfoldable pub strived : ℕ → ℕ
 strived difference = max 1 (difference * 10 / 36)
 
--- "a = s if g = 0, else min(30, max(g×10÷375, s))", by the code of an s that is itself at most 30
+-- "a = s if g = 0, else min(30, max(g×30÷225, s))", by the code of an s that is itself at most 30, as is the term of a pedal
+-- in its range
 unfoldable pub urgedCode : ℕ → ℕ → ℕ
-urgedCode g s = pick (eqb g 0) s (60 + max (min 30 (gasTerm g)) (s - 60))
+urgedCode g s = pick (eqb g 0) s (60 + max (gasTerm g) (s - 60))
 
 -- "v + a×36÷10 held to 0..5000", by the code of a
 unfoldable pub movedBy : ℕ → ℕ → ℕ

@@ -6,11 +6,11 @@ use Prim.Native.Nat.{ℕ, _+_, _-_, _*_, _/_, _≤_, _<_, min, max}
 use native.Mathlib.Omega.{arith}
 use borrow.Author.Tests.{lt-ltb, le-ltb, ltb-false}
 use lib.Dec.{eqb, ltb}
-use Rattle.kit.specs.Bounds.{speedCeiling, mostUp, mostDown}
+use Rattle.kit.specs.Bounds.{pedalCeiling, speedCeiling, fullBrake, fullGas}
 use Rattle.kit.specs.Pick.{pick, pick-true, pick-false, pick-case}
 use Rattle.motion.specs.declared.Acceleration.{Acceleration}
 use Rattle.motion.specs.Acceleration.{speeding, slowing, gasTerm, backedOff, eased, towards, pushed, urged, cruising, accelerationCode}
-use Rattle.motion.specs.AccelerationLaws.{towards-small}
+use Rattle.motion.specs.AccelerationLaws.{gasTerm-le, towards-small}
 use Rattle.motion.specs.AccelerationShape.{decoded, strived, urgedCode, movedBy}
 use Rattle.motion.specs.Speed.{change, moved}
 
@@ -68,17 +68,17 @@ towards-at v x e = rw e (sym (pick-false _ _ _ same ∙ pick-false _ _ _ same))
     same : ltb x x ≡ false
     same = le-ltb x x (omega arith)
 
-urged-is : (term n : ℕ) (t slows : Bool) → n ≤ pick slows mostDown mostUp
-    → pick t (accelerationCode (record { slows = slows; size = n })) (60 + max (min 30 term) (accelerationCode (record { slows = slows; size = n }) - 60))
+urged-is : (term n : ℕ) (t slows : Bool) → term ≤ fullGas → n ≤ pick slows fullBrake fullGas
+    → pick t (accelerationCode (record { slows = slows; size = n })) (60 + max term (accelerationCode (record { slows = slows; size = n }) - 60))
     ≡ accelerationCode (pick t (record { slows = slows; size = n }) (pushed term (record { slows = slows; size = n })))
 unfolding accelerationCode pushed speeding pick
-urged-is term n true slows h = refl
-urged-is term n false true h = omega arith
-urged-is term n false false h = omega arith
+urged-is term n true slows l h = refl
+urged-is term n false true l h = omega arith
+urged-is term n false false l h = omega arith
 
-pub cruising-code : (g v x : ℕ) → urgedCode g (accelerationCode (towards v x)) ≡ accelerationCode (cruising g v x)
+pub cruising-code : (g v x : ℕ) → g ≤ pedalCeiling → urgedCode g (accelerationCode (towards v x)) ≡ accelerationCode (cruising g v x)
 unfolding cruising urged urgedCode
-cruising-code g v x = urged-is (gasTerm g) (towards v x .size) (eqb g 0) (towards v x .slows) (towards-small v x)
+cruising-code g v x h = urged-is (gasTerm g) (towards v x .size) (eqb g 0) (towards v x .slows) (gasTerm-le g h) (towards-small v x)
 
 moved-is : (v n : ℕ) (slows : Bool) → n ≤ 60
     → movedBy v (accelerationCode (record { slows = slows; size = n })) ≡ moved v (change (record { slows = slows; size = n }))

@@ -10,7 +10,8 @@ use lib.Signed.{quotZ, leZ, _≤ℤ_}
 use native.Mathlib.Nat.{zero-div, zero-mul}
 use native.Mathlib.Omega.{arith}
 use borrow.Author.Tests.{leb-true, leb-false, le-ltb}
-use Rattle.kit.specs.Pick.{pick, pick-case, pick-le}
+use Rattle.kit.specs.Bounds.{fullBrake, fullGas}
+use Rattle.kit.specs.Pick.{pick, pick-case}
 use Rattle.motion.specs.declared.Acceleration.{Acceleration}
 use Rattle.motion.specs.Acceleration.{signed, speeding, pushed, accelerationCode}
 use Rattle.motion.specs.AccelerationLaws.{Banded}
@@ -53,7 +54,7 @@ change-of false n = refl
 pub change-signed : (a : Acceleration) → signed (change a) ≡ quotZ (signed a *ℤ pos 36) (pos 10)
 change-signed a = change-of (a .slows) (a .size)
 
--- ---- "min(30, max(g×10÷375, s))" of the signed number s
+-- ---- "min(30, max(g×30÷225, s))" of the signed number s
 unfoldable pub lesser : ℤ → ℤ → ℤ
 lesser x y = pick (leZ x y) x y
 
@@ -88,10 +89,14 @@ pushed-of term true (suc n) = rw (greater-neg term n) (sym (lesser-pos 30 term))
 pub pushed-signed : (term : ℕ) (s : Acceleration) → signed (pushed term s) ≡ lesser (pos 30) (greater (pos term) (signed s))
 pushed-signed term s = pushed-of term (s .slows) (s .size)
 
--- ---- a + 60 fits its seven bits, and is the signed number and 60
-pub code-le : (a : Acceleration) → a .size ≤ 60 → accelerationCode a ≤ 127
-unfolding accelerationCode
-code-le a h = pick-le _ _ _ _ (omega arith) (omega arith)
+-- ---- a + 60 of an a in its band lies in 0..90, which fits seven bits, and is the signed number and 60: at full brake it is 0, nothing is cut
+code-of-le : (slows : Bool) (n : ℕ) → n ≤ pick slows fullBrake fullGas → accelerationCode (record { slows = slows; size = n }) ≤ 60 + fullGas
+unfolding accelerationCode pick
+code-of-le true n h = omega arith
+code-of-le false n h = omega arith
+
+pub code-le : (a : Acceleration) → Banded fullBrake fullGas a → accelerationCode a ≤ 60 + fullGas
+code-le a h = code-of-le (a .slows) (a .size) h
 
 code-of : (slows : Bool) (n : ℕ) → n ≤ 60
     → pos (accelerationCode (record { slows = slows; size = n })) ≡ signed (record { slows = slows; size = n }) +ℤ pos 60

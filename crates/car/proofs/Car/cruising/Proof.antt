@@ -14,4 +14,4 @@ cruising-spec =
     (λ c κs. search needs)
     (λ c κs. (search needs, rw (c .target .ensures, c .before .ahead .ensures) (target-le _ (c .before .before .pre))))
     (λ c κs. search needs)
-    (λ c. rw (c .urged .ensures, c .before .towards .ensures, c .before .before .target .ensures, c .before .before .before .ahead .ensures) (cruising-code _ _ _)))
+    (λ c. rw (c .urged .ensures, c .before .towards .ensures, c .before .before .target .ensures, c .before .before .before .ahead .ensures) (cruising-code _ _ _ (c .before .before .before .before .pre .gas))))

@@ -1,5 +1,6 @@
 use native.Mathlib.Omega.{arith}
 use Rattle.kit.specs.Pick.{picks}
+use Rattle.motion.specs.AccelerationLaws.{gasTerm-le}
 use Rattle.motion.specs.AccelerationShape.{urgedCode}
 use borrow.Author.Needs.{needs}
 use Rattle.car.proofs.acceleration.urged.Statement.{statement}
@@ -14,6 +15,5 @@ urged-spec =
     (λ c κs. search needs)
     (λ c κs. search needs)
     (λ c κs. search needs)
-    (λ c κs. search needs)
-    (λ c. omega (arith, c .most .ensures, c .before .less .ensures, c .before .before .least .ensures))
-    (λ c. search (picks, c .most .ensures, c .before .less .ensures, c .before .before .least .ensures, c .before .before .before .gas-term .ensures)))
+    (λ c. omega (arith, c .most .ensures, c .before .less .ensures, c .before .before .gas-term .ensures, gasTerm-le _ (c .before .before .before .before .pre)))
+    (λ c. search (picks, c .most .ensures, c .before .less .ensures, c .before .before .gas-term .ensures)))
