@@ -36,15 +36,24 @@ pub fn clean(folder: &Folder) -> Result<Vec<u8>, String> {
     folder.bytes("pages-cycle.bin")?.map_or_else(|| stdin("clean"), Ok)
 }
 
+/// The longest walk of every folder: short ones do not have every sort of event.
+const LONG_WALK: &str = "walk-6.bin";
+
 /// The words of an exercise file, behind their number and the settings.
 pub fn cab_words(folder: &Folder) -> Result<Vec<u8>, String> {
-    let Some(file) = folder.bytes("walk-3.bin")? else {
+    let Some(file) = folder.bytes(LONG_WALK)? else {
         return stdin("cab_words");
     };
     let words = words_of(&file);
-    let car = words.first().and_then(|&settings| Car::start(settings).ok()).ok_or("walk-3.bin: no settings word")?;
+    let car = started(LONG_WALK, &words)?;
     let settings = [words.len() as u32 - 1, car.mode as u32, u32::from(car.signs)];
     Ok(bytes_of(&[&settings, &words[1..]].concat()))
+}
+
+/// The fresh car of an exercise file's first word.
+fn started(name: &str, words: &[u32]) -> Result<Car, String> {
+    let car = words.first().and_then(|&settings| Car::start(settings).ok());
+    car.ok_or_else(|| format!("{name}: no settings word"))
 }
 
 /// All records, each behind its number of words and with zeros up to thirteen.
@@ -323,8 +332,7 @@ fn copied(room: usize, events: &[u32]) -> Vec<u32> {
 /// A long lesson with room for exactly its accepted words, and for one less.
 fn long_copies(folder: &Folder) -> Result<[Copy; 2], String> {
     let words = words_of(&folder.bytes(LONG_COPY)?.unwrap_or_default());
-    let start = words.first().and_then(|&settings| Car::start(settings).ok());
-    let car = start.ok_or_else(|| format!("{LONG_COPY}: no settings word"))?;
+    let car = started(LONG_COPY, &words)?;
     let accepted = car.accepted(&words[1..]).0.len();
     let copy = |room| Copy { mode: car.mode as u32, signs: u32::from(car.signs), room, words: words[1..].to_vec() };
     Ok([copy(accepted), copy(accepted.saturating_sub(1))])
