@@ -29,7 +29,7 @@ fn slowing(size: u32) -> u32
     60 - size
 }
 
-// b×60÷225 and g×30÷225, in lowest terms: an instruction less for each.
+// b×60÷225 and g×30÷225, in lowest terms: the factor is a power of two, so that only the quotient takes a product.
 fn brake_term(brake: u32) -> u32
     requires { ⌜ brake ≤ pedalCeiling ⌝ }
     ensures { λ r. ⌜ r ≡ brakeTerm brake ⌝ }
