@@ -600,9 +600,8 @@ impl Car {
             }
         }
         let held = self.now - self.lever_time;
-        if !self.cruise {
-            self.desired = 0;
-        } else if self.up_down.is_out() && held >= 2 {
+        // A tick with cruise off keeps D.
+        if self.cruise && self.up_down.is_out() && held >= 2 {
             self.desired = held_desired(self.up_down, self.lever_base, held);
         }
         self.speed = (old_speed + acceleration * 36 / 10).clamp(0, 5000);

@@ -80,7 +80,7 @@ fn hold() -> Result<String, String> {
     }
     let mut listings = Vec::new();
     for name in file_names()? {
-        listings.extend(expected::lesson(&read(&format!("{VECTORS}/data/{name}"))?)?);
+        listings.extend(listing(&name, &read(&format!("{VECTORS}/data/{name}"))?)?);
     }
     held += hold_output("vectors", &listings, Parts::Lines)?;
     Ok(format!("no difference in the expected outputs of {} programs: {held} lines and words", PROGRAMS.len() + 1))
@@ -92,6 +92,20 @@ fn hold_output(name: &str, model: &[u8], parts: Parts) -> Result<usize, String> 
     match parts.difference(&read(&path)?, model) {
         None => Ok(parts.count(model)),
         Some((place, [file, model])) => Err(difference(&format!("{path}, {place}"), "file", &file, &model)),
+    }
+}
+
+/// The model's listing of an exercise file of the program `vectors`. Where one that was worked out by hand stands beside
+/// the file, the two are the same.
+fn listing(name: &str, file: &[u8]) -> Result<Vec<u8>, String> {
+    let model = expected::lesson(file)?;
+    let path = format!("{VECTORS}/data/{}", name.replace(".bin", ".txt"));
+    let Ok(by_hand) = fs::read(&path) else {
+        return Ok(model);
+    };
+    match Parts::Lines.difference(&by_hand, &model) {
+        None => Ok(model),
+        Some((place, [by_hand, model])) => Err(difference(&format!("{path}, {place}"), "by hand", &by_hand, &model)),
     }
 }
 
@@ -168,7 +182,7 @@ fn made_listings(folder: &Folder, names: &[String]) -> Result<Files, String> {
         if file.len() > INPUT_ROOM {
             return Err(format!("vectors: no room for the {} bytes of {name}", file.len()));
         }
-        listings.extend(expected::lesson(&file)?);
+        listings.extend(listing(name, &file)?);
         files.push((path, file));
     }
     files.push((format!("{VECTORS}/stdout"), listings));

@@ -394,8 +394,6 @@ impl Car {
             if self.g == 0 && old_v <= self.d {
                 self.v = self.v.min(self.d);
             }
-        } else {
-            self.d = 0;
         }
         if self.v != old_v || self.d != old_d || test {
             self.refresh();

@@ -505,15 +505,15 @@ module _ (c : Car) (g : Good c) (end : c .now < lessonLength) where
 
   tickDesired-le : tickDesired c ≤ ceilingOf (c .settings)
   unfolding tickDesired
-  tickDesired-le = pick-le _ _ _ _ (holdDesired-le _) (omega arith)
+  tickDesired-le = pick-le _ _ _ _ (holdDesired-le _) (g .ranges .desired)
 
   tickDesired-pos : c .cruise .on ≡ true → 1 ≤ tickDesired c
   unfolding tickDesired
-  tickDesired-pos e = rw (pick-true (c .cruise .on) (holdDesired c (c .now + 1 - c .levers .time)) 0 e) (holdDesired-pos _ e)
+  tickDesired-pos e = le-pick _ _ _ _ (holdDesired-pos _ e) (g .cruise-on e .low)
 
   tickDesired-off : Off c → tickDesired c ≡ 0
   unfolding tickDesired
-  tickDesired-off o = pick-false _ _ _ (o .cruise)
+  tickDesired-off o = pick-false _ _ _ (o .cruise) ∙ o .desired
 
   -- (f) over a tick: h grows by one
   hold-tick : leverHeld c ≡ true

@@ -78,7 +78,7 @@ module _ (c : Car) where
   abbrev limited : ℕ
   limited = atMost (c .limiter .on) (c .limiter .limit) (moved (c .speed) (change (accelerationOf c)))
 
-  desired-off : c .cruise .on ≡ false → tickDesired c ≡ 0
+  desired-off : c .cruise .on ≡ false → tickDesired c ≡ c .cruise .desired
   unfolding tickDesired
   desired-off o = pick-false _ _ _ o
 
@@ -95,7 +95,7 @@ module _ (c : Car) where
   speed-on d o = ap (λ (b : Bool). atMost (b && leb (c .speed) d) d limited) (and-next (c .cruise .on) (eqb (c .pedals .gas) 0) o)
 
   pub moved-off : (v : ℕ) → c .cruise .on ≡ false → v ≡ limited
-      → _≡_ {A = Moved} (record { desired = 0; speed = v }) (record { desired = tickDesired c; speed = tickSpeed c (tickDesired c) })
+      → _≡_ {A = Moved} (record { desired = c .cruise .desired; speed = v }) (record { desired = tickDesired c; speed = tickSpeed c (tickDesired c) })
   moved-off v o e = let p = desired-off o in let q = speed-off (tickDesired c) o in cc
 
   pub moved-on : (d v : ℕ) → c .cruise .on ≡ true → d ≡ holdDesired c (c .now + 1 - c .levers .time)

@@ -20,4 +20,5 @@ pub mod LessonShapeLaws
 pub mod DriveLaws
 pub mod FreshLaws
 pub mod AnswerLaws
+pub mod KeptLaws
 pub mod FiguresTable

@@ -146,19 +146,19 @@ radarTested r ready now =
 unfoldable pub radarAfter : Car → Bool → RangeRadar
 radarAfter c ready = pick (testDue c) (radarTested (c .radar) ready (c .now + 1)) (c .radar)
 
--- "D: C = 0 gives 0"
-abbrev pub uncruisedDesired : Car → ℕ
-uncruisedDesired c = 0
+-- D: "with L out and h = now − T ≥ 2, up5 ..", now the new one; else D stays
+abbrev pub holdApplies : Car → ℕ → Bool
+holdApplies c h = not (eqb (c .levers .updown) 0) && leb 2 h
 
--- "with L out and h = now − T ≥ 2, up5 ..", now the new one; else D stays
 unfoldable pub holdDesired : Car → ℕ → ℕ
 holdDesired c h =
-    pick (not (eqb (c .levers .updown) 0) && leb 2 h)
+    pick (holdApplies c h)
     (longHeld (ceilingOf (c .settings)) (c .levers .updown) (c .levers .base) h)
     (c .cruise .desired)
 
+-- "A tick with cruise off keeps D"
 unfoldable pub tickDesired : Car → ℕ
-tickDesired c = pick (c .cruise .on) (holdDesired c (c .now + 1 - c .levers .time)) (uncruisedDesired c)
+tickDesired c = pick (c .cruise .on) (holdDesired c (c .now + 1 - c .levers .time)) (c .cruise .desired)
 
 -- "C = 1, g = 0 and the old v was at most it"; it is the new D
 unfoldable pub holdsDesired : Car → ℕ → Bool

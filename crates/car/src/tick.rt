@@ -111,7 +111,7 @@ impl Car {
         let limited = at_most(self.limiter.on, self.limiter.limit, free);
         if !self.cruise.on {
             return Moved {
-                desired: 0,
+                desired: self.cruise.desired,
                 speed: limited,
             };
         }

@@ -5,7 +5,7 @@
 
 #include <stdio.h>
 
-#if CRUISE_VERSION < 0x000300 || CRUISE_VERSION >= 0x010000
+#if CRUISE_VERSION < 0x000400 || CRUISE_VERSION >= 0x010000
 #error "calls.c is for version 0.3 and those that keep to it"
 #endif
 
@@ -419,13 +419,13 @@ static void later_lessons(void)
     static const uint32_t urged_answers[5] = {0xC1F42805, 0xC1F42805, 0xC1F42805, 0xC1F42880, 0xC1F42880};
     static const uint32_t urged_after[WORDS] = {0xB0003015, 0xB100A000, 0xB20011BB, 0xB3000000, 0xB43E87D0, 0xB5000000,
                                                 0xB6000000, 0xB7000000, 0xB8000000, 0xB9000014, 0xBA00003F, 0xBB000000};
-    /* brake 201, two ticks */
-    static const uint32_t braked[WORDS] = {0xB0002C32, 0xB10000C9, 0xB2001386, 0xB3001388, 0xB427EA58, 0xB5000000,
-                                           0xB6000000, 0xB700C71B, 0xB8000000, 0xB9000014, 0xBA015008, 0xBB015008};
-    static const uint32_t braked_words[2] = {0xA0000001, 0xA0000001};
-    static const uint32_t braked_answers[2] = {0xC0000380, 0xC0000380};
-    static const uint32_t braked_after[WORDS] = {0xB0002C32, 0xB10000C9, 0xB200120A, 0xB3001388, 0xB427E800, 0xB5000000,
-                                                 0xB6000000, 0xB700C71B, 0xB8000000, 0xB9000014, 0xBA01500A, 0xBB015008};
+    /* cruise off with a D of 2000, gas 160, two ticks */
+    static const uint32_t keeping[WORDS] = {0xB0002015, 0xB1000000, 0xB2000CA8, 0xB3000000, 0xB43E87D0, 0xB5000000,
+                                            0xB6000000, 0xB7000000, 0xB8000000, 0xB9000014, 0xBA000037, 0xBB000000};
+    static const uint32_t keeping_words[4] = {0x40000000, 0x500000A0, 0xA0000001, 0xA0000001};
+    static const uint32_t keeping_answers[4] = {0xC1F41E05, 0xC1F42880, 0xC1F42880, 0xC1F42880};
+    static const uint32_t keeping_after[WORDS] = {0xB0002015, 0xB100A000, 0xB2000D3E, 0xB3000000, 0xB43E87D0, 0xB5000000,
+                                                  0xB6000000, 0xB7000000, 0xB8000000, 0xB9000014, 0xBA000039, 0xBB000000};
     /* both warnings: a word that 3 refuses, then a tick */
     static const uint32_t warned[WORDS] = {0xB0003412, 0xB1000000, 0xB20001F4, 0xB30000CE, 0xB425EB84, 0xB5000000,
                                            0xB6000000, 0xB707D00A, 0xB80001AA, 0xB9000019, 0xBA01418B, 0xBB01418B};
@@ -434,8 +434,29 @@ static void later_lessons(void)
     static const uint32_t warned_after[WORDS] = {0xB0003412, 0xB1000000, 0xB2000188, 0xB30000CE, 0xB425EB84, 0xB5000000,
                                                  0xB6000000, 0xB707D00A, 0xB80001AA, 0xB9000019, 0xBA01418C, 0xBB01418B};
     taught_is(__LINE__, urged, urged_words, urged_answers, 5, 2, urged_after);
-    taught_is(__LINE__, braked, braked_words, braked_answers, 2, 2, braked_after);
+    taught_is(__LINE__, keeping, keeping_words, keeping_answers, 4, 3, keeping_after);
     taught_is(__LINE__, warned, warned_words, warned_answers, 2, 1, warned_after);
+}
+
+/* Back to the old speed after a roundabout, worked out by hand: cruise at 80.0 km/h, full brake for three seconds, on with the brake
+   released; then forward, below 20.0 km/h. */
+static void roundabout(void)
+{
+    static const uint32_t cruising[WORDS] = {0xB0003011, 0xB1000000, 0xB2000320, 0xB3000000, 0xB4000320, 0xB5000000,
+                                             0xB6000000, 0xB7000000, 0xB8000000, 0xB9000014, 0xBA00000B, 0xBB000000};
+    static const uint32_t off_words[7] = {0x400000E1, 0xA0000001, 0xA0000001, 0xA0000001, 0x40000000, 0xA0000001, 0xA0000001};
+    static const uint32_t off_answers[7] = {0xC0C80000, 0xC0C80000, 0xC0C80000, 0xC0C80000, 0xC0C81E00, 0xC0C81E00, 0xC0C81E00};
+    static const uint32_t off[WORDS] = {0xB0002011, 0xB1000000, 0xB2000098, 0xB3000000, 0xB4000320, 0xB5000000,
+                                        0xB6000000, 0xB7000000, 0xB8000000, 0xB9000014, 0xBA000010, 0xBB000000};
+    static const uint32_t on_words[3] = {0x30000001, 0x30000000, 0xA0000001};
+    static const uint32_t on_answers[3] = {0xC0C82300, 0xC0C82300, 0xC0C82300};
+    static const uint32_t on[WORDS] = {0xB0003011, 0xB1000000, 0xB20000BC, 0xB3000000, 0xB4000320, 0xB5000000,
+                                       0xB6000000, 0xB7000000, 0xB8000000, 0xB9000014, 0xBA000011, 0xBB000000};
+    taught_is(__LINE__, cruising, off_words, off_answers, 7, 7, off);
+    /* a record with D above 0 and cruise off is an ordinary one; N: 25 v / 360 */
+    EQUAL(cruise_test(off, WORDS), CRUISE_ACCEPTED);
+    dials(__LINE__, off, WORDS, 0, 152, 800, 0, 0, 0, 10);
+    taught_is(__LINE__, off, on_words, on_answers, 3, 3, on);
 }
 
 /* Document 02, 3: full brake is -60, full gas 30 with cruise off and on; a second takes v down by 216 and up by 108, not below 0. */
@@ -802,6 +823,7 @@ int main(void)
     the_listing();
     the_list();
     later_lessons();
+    roundabout();
     pedals();
     lessons();
     copies();

@@ -12,23 +12,22 @@ use Rattle.car.specs.declared.Car.{Car}
 use Rattle.car.specs.Drive.{checkOf, stepOf}
 use Rattle.history.specs.Neighbours.{isTick, isLever}
 
--- a word is accepted, or an accepted tick, or an accepted word of the up-down lever
+-- a word is accepted; it is accepted and its event is of a sort: a tick, one of the up-down lever
 abbrev pub accepted : Car → ℕ → Bool
 accepted c w = eqb (checkOf c w) 0
 
-unfoldable pub readTick : Answer Event → Bool
-readTick (gives e) = isTick e
-readTick (refused n) = false
+unfoldable pub reads : (Event → Bool) → Answer Event → Bool
+reads f (gives e) = f e
+reads f (refused n) = false
 
-unfoldable pub readLever : Answer Event → Bool
-readLever (gives e) = isLever e
-readLever (refused n) = false
+abbrev pub acceptedAs : (Event → Bool) → Car → ℕ → Bool
+acceptedAs f c w = accepted c w && reads f (readOf w)
 
 abbrev pub acceptedTick : Car → ℕ → Bool
-acceptedTick c w = accepted c w && readTick (readOf w)
+acceptedTick c w = acceptedAs isTick c w
 
 abbrev pub acceptedLever : Car → ℕ → Bool
-acceptedLever c w = accepted c w && readLever (readOf w)
+acceptedLever c w = acceptedAs isLever c w
 
 -- the accepted words of a list, how many of them are ticks, and how many move the up-down lever
 unfoldable pub acceptedWords : Car → List ℕ → List ℕ

@@ -20,7 +20,7 @@ use Rattle.car.specs.Lesson.{driven}
 use Rattle.car.specs.StepLaws.{Stepping, went, stayed, stepping, step-good}
 use Rattle.history.specs.Neighbours.{isTick, isLever, Neighbouring, Neighbours}
 use Rattle.history.specs.NeighbourLaws.{next-neighbours}
-use Rattle.history.specs.History.{accepted, readTick, readLever, acceptedTick, acceptedLever, ticksOf, leversOf, Since, sinceWord, since}
+use Rattle.history.specs.History.{accepted, reads, acceptedAs, acceptedTick, acceptedLever, ticksOf, leversOf, Since, sinceWord, since}
 
 no : {A : Type 0} → true ≡ false → A
 no e = absurd (true≢false e)
@@ -37,9 +37,10 @@ pub data Word (c : Car) (w : ℕ) : Type 0 where
   took : (e : Event) → accepted c w ≡ true → Accepted c w e → Word c w
   left : accepted c w ≡ false → stepOf c w .car ≡ c → Word c w
 
-read-tick : (w : ℕ) (e : Event) → readOf w ≡ gives e → (readTick (readOf w) ≡ isTick e) × (readLever (readOf w) ≡ isLever e)
-unfolding readTick readLever
-read-tick w e h = (rw h, rw h)
+-- an accepted word is of a sort exactly when its event is
+pub accepted-as : (f : Event → Bool) (c : Car) (w : ℕ) (e : Event) → readOf w ≡ gives e → accepted c w ≡ true → acceptedAs f c w ≡ f e
+unfolding reads
+accepted-as f c w e r a = and-next _ _ a ∙ rw r
 
 pub word-view : (c : Car) (w : ℕ) → goodOf c ≡ true → Word c w
 word-view c w g = by (stepping c w)
@@ -47,13 +48,12 @@ word-view c w g = by (stepping c w)
     by : Stepping c w → Word c w
     by (went e r i h z q) =
         let a = eq-eqb (checkOf c w) 0 z in
-        let t = read-tick w e r in
         let d = ap (λ (d : Driven). d .car) q in
         took e a (record {
           next = d;
           neighbours = rw d (next-neighbours c e (good c g) h);
-          tick = and-next _ _ a ∙ t .0;
-          lever = and-next _ _ a ∙ t .1;
+          tick = accepted-as isTick c w e r a;
+          lever = accepted-as isLever c w e r a;
         })
     by (stayed n q) = left (ne-eqb (checkOf c w) 0 n) (ap (λ (d : Driven). d .car) q)
 
@@ -62,6 +62,10 @@ pub driven-append : (c : Car) (us vs : List ℕ) → driven c (us ++ vs) ≡ dri
 unfolding driven
 driven-append c [] vs = refl
 driven-append c (w ∷ us) vs = driven-append (stepOf c w .car) us vs
+
+pub driven-at : (c : Car) (us : List ℕ) (w : ℕ) (vs : List ℕ) → driven c (us ++ w ∷ vs) ≡ driven (driven c (us ++ w ∷ [])) vs
+unfolding driven
+driven-at c us w vs = rw (driven-append c us (w ∷ vs), driven-append c us (w ∷ []))
 
 -- the clock
 ticked-now : (c : Car) (w : ℕ) (t : Bool) (e : Event) → isTick e ≡ t → Accepted c w e → stepOf c w .car .now ≡ c .now + pick t 1 0

@@ -12,8 +12,10 @@ use borrow.Author.Tests.{eq-eqb, eqb-true, le-ltb}
 use Rattle.kit.specs.Answer.{Answer, gives, refused}
 use Rattle.kit.specs.Pick.{pick, pick-true, pick-false, pick-case, and-both, and-l, and-r}
 use Rattle.car.specs.declared.Car.{Car}
+use Rattle.car.specs.Car.{ceilingOf}
 use Rattle.car.specs.Good.{goodOf}
 use Rattle.car.specs.GoodLaws.{good, good-test}
+use Rattle.car.specs.KeptLaws.{keeping, keeping-good}
 use Rattle.record.specs.declared.Written.{Written}
 use Rattle.record.specs.Layout.{packed, unpacked}
 use Rattle.record.specs.LayoutLaws.{good-fits, unpacked-packed, packed-unpacked, packed-marked, packed-length}
@@ -147,6 +149,11 @@ good-exactly c = (
   λ h. record { words = packed c; accepted = packed-accepted c h; gives = packed-read c h },
   λ r. read-packed (r .words) c (r .gives) .1,
 )
+
+-- document 02, §4: a car with the key on, cruise off and any D up to the ceiling, good but for that D, is read back as itself
+pub keeping-read : (c : Car) (d : ℕ) → goodOf c ≡ true → c .key ≡ 2 → c .cruise .on ≡ false → d ≤ ceilingOf (c .settings)
+    → readOf (packed (keeping c d)) ≡ gives (keeping c d)
+keeping-read c d g k e b = packed-read _ (keeping-good c d g k e b)
 
 -- ---- the writer into a buffer
 -- a car that was written into a buffer is read from the buffer's first twelve words

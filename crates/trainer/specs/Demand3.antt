@@ -1,4 +1,4 @@
--- Demand 3: what holds of every list of calls from a fresh car. One field for each sentence, in its order.
+-- Demand 3: what holds of every list of calls from a fresh car. One field for each sentence, in its order; the last is document 02's §4.
 -- Positions in a list are said by splits: `words c ks ≡ us ++ w ∷ vs` says that w comes after us in the list's words.
 -- Assumes nothing.
 use mathlib.Core.Bool.{true}
@@ -15,6 +15,7 @@ use Rattle.car.specs.Lesson.{driven, refusedOf, lessonOf}
 use Rattle.car.specs.Standing.{Good}
 use Rattle.history.specs.Neighbours.{Neighbouring}
 use Rattle.history.specs.History.{acceptedTick, acceptedLever, acceptedWords, ticksOf, leversOf, Since, never, since}
+use Rattle.history.specs.KeptDesired.{KeptDesired}
 use Rattle.trainer.specs.Calls.{Call, lesson, keep, outcome, refusalOf, ends, outcomes, words, given, withoutKeeps, withoutKept}
 
 -- (f) "h, now − T, is the ticks accepted since the word that put L there; B is the D it left; D is the tick's formula, or B for h below 2"
@@ -77,3 +78,5 @@ pub record Demand3 (c : Car) (ks : List Call) : Type 0 where
   -- "The same list without its record calls ends in the same car, and its other calls give the same refusals, answer words and counts."
   pub without-car : ends c (withoutKeeps ks) ≡ ends c ks
   pub without-outcomes : outcomes c (withoutKeeps ks) ≡ withoutKept (outcomes c ks)
+  -- document 02, §4, after each word: D is "whatever the last lever, sign or hold rule left, or 0 with none since the key"
+  pub desired-each : (us vs : List ℕ) → words c ks ≡ us ++ vs → KeptDesired c us

@@ -26,6 +26,8 @@ use Rattle.history.specs.Neighbours.{isLever}
 use Rattle.history.specs.History.{acceptedLever, ticksOf, leversOf, Since, never}
 use Rattle.history.specs.HistoryLaws.{Accepted, Word, took, left, word-view, driven-append, now-all, neighbouring-step, Times, times-all, times-on}
 use Rattle.history.specs.AcceptedLaws.{accepted-same, accepted-clean}
+use Rattle.history.specs.KeptDesired.{KeptDesired}
+use Rattle.history.specs.KeptDesiredLaws.{desired-kept}
 use Rattle.record.specs.Layout.{packed}
 use Rattle.record.specs.Record.{savedRefusal, savedBuffer}
 use Rattle.record.specs.RecordLaws.{saved-read}
@@ -237,10 +239,10 @@ fresh-clock : (mode signs : ℕ) → freshCar (settingsOf mode signs) .now ≡ 0
 unfolding freshCar
 fresh-clock mode signs = refl
 
--- from any good car with an idle lever and its clock at 0
-from-good : (c : Car) (ks : List Call) → goodOf c ≡ true → (leverHeld c ≡ true → ⊥) → c .now ≡ 0 → Demand3 c ks
+-- from any good car with an idle lever and its clock at 0, whose D every list of words keeps
+from-good : (c : Car) (ks : List Call) → goodOf c ≡ true → (leverHeld c ≡ true → ⊥) → c .now ≡ 0 → ((us : List ℕ) → KeptDesired c us) → Demand3 c ks
 unfolding driven
-from-good c ks g idle zero = record {
+from-good c ks g idle zero desired = record {
   standing = good _ (ends-good c ks g);
   standing-each = λ us vs _. good _ (driven-good c us g);
   neighbours = λ us w vs _. rw (driven-append c us (w ∷ [])) (neighbouring-step _ w (driven-good c us g));
@@ -262,8 +264,10 @@ from-good c ks g idle zero = record {
   clock = ap (λ (x : Car). x .now) (ends-words c ks g) ∙ omega (arith, now-all c (words c ks) g);
   without-car = without c ks g .0;
   without-outcomes = without c ks g .1;
+  desired-each = λ us vs _. desired us;
 }
 
 -- "For every list of these calls .., refused ones included, from a fresh car with any permitted settings, the following holds after it."
 pub demand-3 : (mode signs : ℕ) → Permitted mode signs → (ks : List Call) → Demand3 (freshCar (settingsOf mode signs)) ks
-demand-3 mode signs p ks = from-good _ ks (permitted-good mode signs p) (fresh-idle mode signs) (fresh-clock mode signs)
+demand-3 mode signs p ks =
+    from-good _ ks (permitted-good mode signs p) (fresh-idle mode signs) (fresh-clock mode signs) (desired-kept mode signs p)
