@@ -201,3 +201,36 @@ pub fn copied(car: Result<Car, u32>, room: usize, words: &[u32]) -> Outcome {
         Err(refusal) => Outcome { refusal, buffer, ..Outcome::default() },
     }
 }
+
+// ---------------------------------------------------------------- Marks
+
+/// A lesson and a speed mark.
+pub struct Mark {
+    pub mark: u32,
+    pub start: Start,
+    pub words: Vec<u32>,
+}
+
+/// What the lesson starts from.
+pub enum Start {
+    Fresh { mode: u32, signs: u32 },
+    Record(Vec<u32>),
+}
+
+impl Start {
+    /// Its car. 17, 18: there is none.
+    pub fn car(&self) -> Result<Car, u32> {
+        match self {
+            Start::Fresh { mode, signs } => Car::fresh(*mode, *signs),
+            Start::Record(words) => Car::read(words).ok_or(18),
+        }
+    }
+
+    /// The record that is lent, accepted or not; none where there is no fresh car.
+    pub fn record(&self) -> Option<Vec<u32>> {
+        match self {
+            Start::Fresh { .. } => self.car().ok().map(|car| car.write().to_vec()),
+            Start::Record(words) => Some(words.clone()),
+        }
+    }
+}

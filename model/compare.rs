@@ -2,7 +2,7 @@
 //! be run again alone.
 
 use crate::library::{self, GUARD};
-use crate::paper::{Car, Lesson};
+use crate::paper::{Car, Lesson, Passing};
 use crate::random::{self, Driver, Random, FIELDS};
 use crate::tuned;
 use std::fmt::Write;
@@ -19,9 +19,10 @@ pub enum Kind {
     Alike,
     Tuned,
     Copy,
+    Mark,
 }
 
-const KINDS: [(Kind, &str); 8] = [
+const KINDS: [(Kind, &str); 9] = [
     (Kind::Fresh, "fresh"),
     (Kind::Walk, "walk"),
     (Kind::Lesson, "lesson"),
@@ -30,10 +31,11 @@ const KINDS: [(Kind, &str); 8] = [
     (Kind::Alike, "alike"),
     (Kind::Tuned, "tuned"),
     (Kind::Copy, "copy"),
+    (Kind::Mark, "mark"),
 ];
 
 /// One round of cases; a run is many rounds.
-const ROUND: [Kind; 13] = [
+const ROUND: [Kind; 14] = [
     Kind::Fresh,
     Kind::Walk,
     Kind::Lesson,
@@ -42,6 +44,7 @@ const ROUND: [Kind; 13] = [
     Kind::Alike,
     Kind::Tuned,
     Kind::Copy,
+    Kind::Mark,
     Kind::Walk,
     Kind::Lesson,
     Kind::Damaged,
@@ -106,6 +109,7 @@ fn run_case(kind: Kind, seed: u64, tally: &mut Tally, shown: bool) -> Result<(),
         Kind::Alike => alike_case(bench, random),
         Kind::Tuned => tuned_case(bench, random),
         Kind::Copy => copy_case(bench, random),
+        Kind::Mark => mark_case(bench, random),
     }
 }
 
@@ -240,7 +244,7 @@ fn tuned_case(bench: &mut Bench, random: &mut Random) -> Result<(), Difference> 
 fn copy_case(bench: &mut Bench, random: &mut Random) -> Result<(), Difference> {
     let settings = if random.once_in(4) { random::settings_word(random) } else { random::good_settings(random) };
     let car = Car::start(settings).unwrap_or_else(|_| random::fresh_car(random));
-    let count = copy_count(random);
+    let count = some_count(random);
     let words = match random.below(4) {
         0 => random::accepted_words(random, car, count),
         _ => random::event_words(random, car, count),
@@ -256,6 +260,39 @@ fn copy_case(bench: &mut Bench, random: &mut Random) -> Result<(), Difference> {
         bench.copy_again(settings, &words, copy.lend().unwrap_or(&[]))?;
     }
     Ok(())
+}
+
+/// Marks of a lesson, whole and cut in two, from a record that is now and then damaged or of a wrong length.
+fn mark_case(bench: &mut Bench, random: &mut Random) -> Result<(), Difference> {
+    let (car, words) = marked_lesson(random);
+    let record = if random.once_in(4) { random::damaged_record(random) } else { car.write().to_vec() };
+    let found = bench.read(&record);
+    let record = Buffer::holding(random, &record);
+    let (seconds, _) = found.unwrap_or(car).seconds(&words);
+    let (all, start) = amid(random, &words);
+    for _ in 0..6 {
+        let mark = random::mark(random, &seconds);
+        let passing = found.map(|_| Passing::of(&seconds, mark));
+        bench.mark(passing, &record, &all, start, words.len(), mark)?;
+    }
+    if found.is_some() {
+        let mark = random::mark(random, &seconds);
+        let cut = random.below(words.len() as u32 + 1) as usize;
+        bench.mark_halves(record.expected(), words.split_at(cut), mark)?;
+    }
+    Ok(())
+}
+
+/// A lesson of any sort from a good car, or one that passes its marks round the edge of a part.
+fn marked_lesson(random: &mut Random) -> (Car, Vec<u32>) {
+    if random.once_in(3) {
+        let still = random.pick(&[1, 2]) * PART - random.below(10) as usize;
+        let ticks = random.pick(&[1, 2, 9, 60, 1200]);
+        return (random::fresh_car(random), random::late_start(random, still, ticks));
+    }
+    let car = random::good_car(random);
+    let count = some_count(random);
+    (car, random::event_words(random, car, count))
 }
 
 /// A sensible word where there is a car to know, else noise.
@@ -277,11 +314,11 @@ fn answer_buffer(random: &mut Random, count: usize) -> Buffer {
     Buffer::random(random, room)
 }
 
-/// How many words of a lesson the library copies at a time.
+/// How many words of a lesson the library works off at a time for a copy or a mark.
 const PART: usize = 1024;
 
-/// How many words a lesson to copy has: a few, some thousands, or as many as whole parts have, and two less or more.
-fn copy_count(random: &mut Random) -> usize {
+/// How many words such a lesson has: a few, some thousands, or as many as whole parts have, and two less or more.
+fn some_count(random: &mut Random) -> usize {
     match random.below(4) {
         0 => random.below(20) as usize,
         1 => random.below(5000) as usize,
@@ -740,6 +777,74 @@ impl Bench<'_> {
             || format!("{refusal} written {}{}", out[1], complaint(again == copy, ", OTHER WORDS")),
         )
     }
+
+    /// A mark of a lesson, and what the model says of it; none where the record is not accepted.
+    fn mark(
+        &mut self,
+        passing: Option<Passing>,
+        record: &Buffer,
+        all: &Buffer,
+        start: usize,
+        count: usize,
+        mark: u32,
+    ) -> Result<(), Difference> {
+        let words = all.lend().map(|all| &all[start..start + count]);
+        let refusal = if passing.is_some() { 0 } else { 18 };
+        let Passing { event, seconds } = passing.unwrap_or(Passing { event: None, seconds: 0 });
+        let (given, out) = library::mark(record.lend(), words, mark);
+        let guard = GUARD as usize;
+        self.tally.count(Call::Mark, refusal);
+        self.tally.count_mark(event, passing.map_or(0, |_| count));
+        self.judge(
+            given == refusal
+                && out == [guard, event.unwrap_or(0), guard, seconds, guard]
+                && record.is_as_expected()
+                && all.is_as_expected(),
+            || {
+                let words = word_count(words.unwrap_or(&[]), self.shown);
+                let record = input(record.expected(), record.is_null);
+                format!("cruise_mark mark {mark} record {record} (from {start} of the caller's) {words}")
+            },
+            || format!("{refusal} event {} seconds {seconds}", event.unwrap_or(0)),
+            || {
+                format!(
+                    "{given} event {} seconds {}{} record {}{}",
+                    out[1],
+                    out[3],
+                    complaint(out[0] == guard && out[2] == guard && out[4] == guard, " GUARDS OVERWRITTEN"),
+                    found(record),
+                    complaint(all.is_as_expected(), " CALLER'S WORDS CHANGED"),
+                )
+            },
+        )
+    }
+
+    /// Of the library alone: a lesson in two parts, the second from the record that the first leaves, has the seconds
+    /// and the find of the whole one, the find counted on in the second part.
+    fn mark_halves(&mut self, record: &[u32], halves: (&[u32], &[u32]), mark: u32) -> Result<(), Difference> {
+        let (first, second) = halves;
+        let whole = marked(record, &[first, second].concat(), mark);
+        let mut after = record.to_vec();
+        library::lesson(Some(&mut after), Some(first), Some(&mut vec![0; first.len()]));
+        let [before, behind] = [marked(record, first, mark), marked(&after, second, mark)];
+        let event = before.0.or(behind.0.map(|event| first.len() + event));
+        let joined = (event, before.1 + behind.1);
+        self.judge(
+            joined == whole,
+            || {
+                let words = [first, second].map(|words| word_count(words, self.shown)).join(" and ");
+                format!("cruise_mark mark {mark} record {} of two parts, {words}", hex(record))
+            },
+            || format!("{whole:?}, as the whole lesson"),
+            || format!("{joined:?}"),
+        )
+    }
+}
+
+/// The event and the seconds of a mark, by the library.
+fn marked(record: &[u32], words: &[u32], mark: u32) -> (Option<usize>, usize) {
+    let (_, out) = library::mark(Some(record), Some(words), mark);
+    (Some(out[1]).filter(|&event| event > 0), out[3])
 }
 
 /// A lesson from the fresh car of its settings, by the library: the refusal, the count refused and the record.
@@ -799,9 +904,10 @@ enum Call {
     Figures,
     Alike,
     Copy,
+    Mark,
 }
 
-const CALL_NAMES: [&str; 7] = ["fresh", "drive", "lesson", "test", "figures", "alike", "copy"];
+const CALL_NAMES: [&str; 8] = ["fresh", "drive", "lesson", "test", "figures", "alike", "copy", "mark"];
 
 #[derive(Default)]
 struct Tally {
@@ -815,6 +921,10 @@ struct Tally {
     alike: u64,
     tuned_words: u64,
     copied_words: u64,
+    /// Words of the lessons that were asked for a mark.
+    marked_words: u64,
+    /// Marks that were passed, and those of them at one of the two words on each side of a part's edge.
+    passed: [u64; 2],
 }
 
 impl Tally {
@@ -828,6 +938,12 @@ impl Tally {
         }
     }
 
+    fn count_mark(&mut self, event: Option<usize>, words: usize) {
+        self.marked_words += words as u64;
+        self.passed[0] += u64::from(event.is_some());
+        self.passed[1] += u64::from(event.is_some_and(|event| event > 2 && (event + 1) % PART < 4));
+    }
+
     fn print(&self, seed: u64) {
         println!("no difference, seed {seed}");
         for ((_, name), count) in KINDS.iter().zip(self.cases) {
@@ -839,6 +955,11 @@ impl Tally {
         println!("  {:>9} records made by hand accepted, {} refused", self.records[1], self.records[0]);
         println!("  {:>9} pairs of cars alike", self.alike);
         println!("  {:>9} words written in copies", self.copied_words);
+        let [passed, at_edges] = self.passed;
+        println!(
+            "  {:>9} words in lessons with a mark, {passed} passed, {at_edges} at a part's edge",
+            self.marked_words
+        );
         print!("{:>8}", "answer");
         CALL_NAMES.iter().for_each(|name| print!("{name:>10}"));
         println!("{:>14}", "lesson words");

@@ -1,7 +1,8 @@
 //! What the programs give for an exercise file: `lesson` its listing (document 01, "The cab, alike, and the program"),
-//! `clean` its clean file, the settings word and the accepted words (document 02, §2).
+//! `clean` its clean file, the settings word and the accepted words (document 02, §2), `mark` the event that passed a
+//! speed mark and the seconds at or above it (§5).
 
-use crate::paper::Car;
+use crate::paper::{Car, Passing};
 use std::io::Write;
 
 const HEAD: &str = "n refusal speed desired accel visual acoustic";
@@ -44,6 +45,20 @@ impl Given {
 
     pub fn clean(file: &[u8]) -> Given {
         Given::of(file, Given::put_word)
+    }
+
+    /// All of it is due at the file's end.
+    pub fn mark(file: &[u8], mark: u32) -> Given {
+        let words = words_of(file);
+        let start = words.first().and_then(|&settings| Car::start(settings).ok());
+        let (text, events) = match start {
+            None => (String::from("refused 17\n"), 0),
+            Some(car) => {
+                let cut = if file.len() % 4 > 0 { "refused 21\n" } else { "" };
+                (passing_lines(car.passing(&words[1..], mark)) + cut, words.len() - 1)
+            }
+        };
+        Given { output: text.into_bytes(), told: 0, due: vec![0; events + 2] }
     }
 
     fn of(file: &[u8], put: fn(&mut Given, Part)) -> Given {
@@ -118,6 +133,11 @@ impl Given {
     pub fn events(&self) -> usize {
         self.due.len().saturating_sub(2)
     }
+}
+
+fn passing_lines(Passing { event, seconds }: Passing) -> String {
+    let first = event.map_or(String::from("never"), |event| format!("event {event}"));
+    format!("{first}\nseconds {seconds}\n")
 }
 
 /// Does a line of a listing show a refusal? The head line, which stands for the settings word, does not.

@@ -2,7 +2,8 @@
 
 use crate::calls::{copied, Call, Fields, Outcome, UNUSED};
 use crate::exercise::{bytes_of, words_of, Given};
-use crate::paper::{Car, Event, Figures};
+use crate::inputs::MARK;
+use crate::paper::{Car, Event, Figures, Passing};
 use std::io::Write;
 
 /// Lines of numbers, each with a blank behind it.
@@ -117,10 +118,14 @@ pub fn clean(input: &[u8]) -> Result<Vec<u8>, String> {
     Ok(Given::clean(input).output)
 }
 
+pub fn mark(input: &[u8]) -> Result<Vec<u8>, String> {
+    Ok(Given::mark(input, MARK).output)
+}
+
 // ---------------------------------------------------------------- calls
 
-/// The input of `calls`, `cruise_calls` or `copies` call by call, up to the 0 that ends it; `length` is that of the
-/// first call.
+/// The input of `calls`, `cruise_calls`, `copies` or `marks` call by call, up to the 0 that ends it; `length` is that
+/// of the first call.
 fn split(mut words: &[u32], length: impl Fn(&[u32]) -> Option<usize>) -> Option<Vec<&[u32]>> {
     let mut calls = Vec::new();
     while *words.first()? != 0 {
@@ -272,14 +277,14 @@ fn questions(page: &mut Page, words: &[u32], before: &[u32]) {
 
 // ---------------------------------------------------------------- copies
 
-/// The greatest size of `copies`.
-const MOST_COPIED: u32 = 3072;
+/// The greatest size of `copies`, and of a lesson of `marks`.
+const MOST_WORDS: u32 = 3072;
 
 /// The calls of the input of `copies`.
 fn split_copies(words: &[u32]) -> Result<Vec<&[u32]>, String> {
     let length = |words: &[u32]| match words[0] {
-        1 => lesson_length(3, words.get(3..5)?, MOST_COPIED),
-        2 => lesson_length(24, words.get(24..26)?, MOST_COPIED),
+        1 => lesson_length(3, words.get(3..5)?, MOST_WORDS),
+        2 => lesson_length(24, words.get(24..26)?, MOST_WORDS),
         3 => Some(3 + words.get(2)?.div_ceil(4) as usize),
         _ => None,
     };
@@ -319,4 +324,66 @@ fn clean_lines(page: &mut Page, file: &[u8]) {
     let words = words_of(&clean.output);
     page.numbers(&[clean.told, words.len() as u32]).end();
     page.numbers(&words).end();
+}
+
+// ---------------------------------------------------------------- marks
+
+/// The greatest record of `marks` in words; the greatest piece of a file and the greatest file in bytes.
+const MOST_LENT: u32 = 13;
+const MOST_CUT: u32 = 4096;
+const MOST_BYTES: u32 = 4112;
+
+/// The calls of the input of `marks`.
+fn split_marks(words: &[u32]) -> Result<Vec<&[u32]>, String> {
+    let length = |words: &[u32]| match words[0] {
+        1 => marked_length(3 + *words.get(2).filter(|&&lent| lent <= MOST_LENT)? as usize, words),
+        2 => marked_length(25, words),
+        3 => match words.get(2..4)? {
+            [1..=MOST_CUT, bytes @ 0..=MOST_BYTES] => Some(4 + bytes.div_ceil(4) as usize),
+            _ => None,
+        },
+        _ => None,
+    };
+    split(words, length).ok_or_else(|| String::from("marks: an input that it does not read, or only in part"))
+}
+
+/// The length of a call whose count of words stands at this place, before the words.
+fn marked_length(at: usize, words: &[u32]) -> Option<usize> {
+    let count = words.get(at).filter(|&&count| count <= MOST_WORDS)?;
+    Some(at + 1 + *count as usize)
+}
+
+pub fn marks(input: &[u8]) -> Result<Vec<u8>, String> {
+    let mut page = Page::default();
+    for call in split_marks(&words_of(input))? {
+        match call[0] {
+            1 => {
+                let (record, words) = call[3..].split_at(call[2] as usize);
+                let (refusal, [event, seconds], _) = marked(Car::read(record), &words[1..], call[1]);
+                page.numbers(&[refusal, event, seconds]).end();
+            }
+            2 => {
+                let fields = car_of(call[1..24].try_into().expect("23 words"));
+                let (refusal, [event, seconds], car) = marked(fields.car(), &call[26..], call[24]);
+                page.numbers(&[refusal, event, seconds]).end();
+                page.numbers(&car.map_or(fields, |car| Fields::of(&car)).0).end();
+                page.numbers(&[refusal, event]).end();
+                page.numbers(&[refusal, seconds]).end();
+            }
+            // The same, however the file is cut.
+            _ => page.0.extend(Given::mark(&bytes_of(&call[4..])[..call[3] as usize], call[1]).output),
+        }
+    }
+    Ok(page.0)
+}
+
+/// The refusal, the event, 0 for never, and the seconds, with the car afterwards. 18 and zeros where there is no good
+/// car.
+fn marked(car: Option<Car>, words: &[u32], mark: u32) -> (u32, [u32; 2], Option<Car>) {
+    let Some(car) = car else {
+        return (18, [0, 0], None);
+    };
+    let (seconds, after) = car.seconds(words);
+    let Passing { event, seconds } = Passing::of(&seconds, mark);
+    (0, [event.unwrap_or(0), seconds].map(|number| number as u32), Some(after))
 }

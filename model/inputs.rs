@@ -1,12 +1,13 @@
 //! The test programs' inputs from a folder of outside vectors. What the folder does not have is kept from the input as
 //! it stands.
 
-use crate::calls::{run_all, Call, Copy, Fields, Outcome, UNUSED};
+use crate::calls::{run_all, Call, Copy, Fields, Mark, Outcome, Start, UNUSED};
 use crate::exercise::{bytes_of, words_of};
 use crate::expected::{split_calls, split_cruise_calls};
-use crate::outside::Folder;
-use crate::paper::Car;
+use crate::outside::{listed_passing, Folder, Listed};
+use crate::paper::{Car, Passing};
 use std::fs;
+use std::ops::Range;
 
 /// A file of the repository, from its top.
 pub fn read(path: &str) -> Result<Vec<u8>, String> {
@@ -318,6 +319,7 @@ pub fn copies(folder: &Folder) -> Result<Vec<u8>, String> {
     for (name, cut) in CUT_FILES {
         let mut file = folder.bytes(name)?.unwrap_or_default();
         file.truncate(FILE_BYTES);
+        words.push(3);
         words.extend(cut_file(file, cut));
     }
     words.push(0);
@@ -371,5 +373,205 @@ fn car_copy(fields: Fields, room: usize, events: &[u32]) -> Vec<u32> {
 fn cut_file(mut file: Vec<u8>, cut: u32) -> Vec<u32> {
     let length = file.len();
     file.resize(length.next_multiple_of(4), 0);
-    [&[3, cut, length as u32], &words_of(&file)[..]].concat()
+    [&[cut, length as u32], &words_of(&file)[..]].concat()
+}
+
+// ---------------------------------------------------------------- marks
+
+/// The exercise file that lessons with more words than are worked off at a time, 1024, are cut from.
+const LONG_MARKED: &str = "pages-whole";
+/// At which of its words each of some lessons first passes its mark, and how many words they have.
+const EDGES: [usize; 4] = [1023, 1024, 1025, 1026];
+const EDGE_WORDS: usize = 1028;
+/// The same of a longer one.
+const LONG_EDGE: usize = 1500;
+const LONG_WORDS: usize = 2100;
+/// The exercise file that goes up and down between two speeds, and the events of two lessons of it, of two parts and of
+/// three.
+const CYCLE: &str = "pages-cycle";
+const CYCLE_EVENTS: [Range<usize>; 2] = [100..1200, 100..2200];
+
+/// Which mark a file is asked for.
+#[derive(Clone, Copy)]
+enum Chosen {
+    Zero,
+    /// The first v above 0.
+    First,
+    /// The highest v.
+    Top,
+    /// One above the highest.
+    Never,
+}
+
+/// The exercise files, each with the size of the pieces it is cut into and its mark.
+const MARKED_FILES: [(&str, u32, Chosen); 18] = [
+    ("example", 1, Chosen::Top),
+    ("example", 3, Chosen::Never),
+    ("settings-alone", 3, Chosen::First),
+    ("settings-alone", 4, Chosen::Zero),
+    ("nothing", 1, Chosen::Zero),
+    ("cut-first", 2, Chosen::First),
+    ("cut-later", 3, Chosen::Zero),
+    ("bad-settings-0", 1, Chosen::Zero),
+    ("bad-settings-3", 5, Chosen::First),
+    ("bad-settings-4", 8, Chosen::Never),
+    ("random-words", 7, Chosen::Zero),
+    ("walk-1", 1, Chosen::Top),
+    ("walk-1", 5, Chosen::Zero),
+    ("walk-1", 6, Chosen::First),
+    ("walk-2", 3, Chosen::First),
+    ("walk-2", 4095, Chosen::Never),
+    ("walk-3", 4096, Chosen::Top),
+    ("pages-cut", 4096, Chosen::Top),
+];
+
+/// The outside marks; records that are too short or too long; cars that are not good; lessons with more words than are
+/// worked off at a time; exercise files.
+pub fn marks(folder: &Folder) -> Result<Vec<u8>, String> {
+    let files = MARKED_FILES.map(|(name, ..)| name).into_iter().chain([LONG_MARKED, CYCLE]);
+    let files = files.map(|name| format!("{name}.bin"));
+    if !["mark.in", "calls.in"].map(String::from).into_iter().chain(files).all(|name| folder.has(&name)) {
+        return stdin("marks");
+    }
+    let marks = folder.marks()?.unwrap_or_default();
+    let mut words: Vec<u32> = marks.iter().chain(&long_marks(folder)?).flat_map(lent_and_on_car).collect();
+    words.extend(wrongly_lent_marks(&marks));
+    words.extend(bad_car_marks(&folder.calls("calls")?.unwrap_or_default()));
+    for at in EDGES {
+        words.extend(lent(&passed_at(folder, at, EDGE_WORDS)?));
+    }
+    for (name, cut, chosen) in MARKED_FILES {
+        words.extend(marked_file(folder, name, cut, chosen)?);
+    }
+    words.push(0);
+    Ok(bytes_of(&words))
+}
+
+/// A mark passed in the second part of a lesson; one that v is at or above from the start on, so never passed; and one
+/// that v goes below first, and is at or above in each part.
+fn long_marks(folder: &Folder) -> Result<[Mark; 3], String> {
+    let [shorter, longer] = CYCLE_EVENTS;
+    let lowest = folder.listed(CYCLE)?[longer.clone()].iter().map(|event| event.speed).min().unwrap_or(0);
+    Ok([
+        passed_at(folder, LONG_EDGE, LONG_WORDS)?,
+        cut_lesson(folder, CYCLE, shorter, lowest)?,
+        cut_lesson(folder, CYCLE, longer, lowest + 1)?,
+    ])
+}
+
+fn lent_and_on_car(mark: &Mark) -> Vec<u32> {
+    [lent(mark), on_car(mark)].concat()
+}
+
+/// By the library's function.
+fn lent(Mark { mark, start, words }: &Mark) -> Vec<u32> {
+    start.record().map_or(Vec::new(), |record| lent_mark(&record, *mark, words))
+}
+
+/// By the calls on the car that the record shows, good or not.
+fn on_car(Mark { mark, start, words }: &Mark) -> Vec<u32> {
+    let fields = start.record().and_then(|record| Fields::of_record(&record));
+    fields.map_or(Vec::new(), |fields| car_mark(fields, *mark, words))
+}
+
+fn lent_mark(record: &[u32], mark: u32, events: &[u32]) -> Vec<u32> {
+    [&[1, mark, record.len() as u32], record, &[events.len() as u32], events].concat()
+}
+
+fn car_mark(fields: Fields, mark: u32, events: &[u32]) -> Vec<u32> {
+    [&[2], &fields.0[..], &[mark, events.len() as u32], events].concat()
+}
+
+/// The first mark whose record is accepted, with 0, 11 and 13 words lent.
+fn wrongly_lent_marks(marks: &[Mark]) -> Vec<u32> {
+    let Some(Mark { mark, start, words }) = marks.iter().find(|mark| mark.start.car().is_ok()) else {
+        return Vec::new();
+    };
+    let record: Vec<u32> = start.record().into_iter().flatten().chain([UNUSED]).collect();
+    [0, 11, 13].iter().flat_map(|&lent| lent_mark(&record[..lent], *mark, words)).collect()
+}
+
+/// The lessons of the calls on cars that are not good, with a mark that counts each accepted tick.
+fn bad_car_marks(calls: &[Call]) -> Vec<u32> {
+    let mut words = Vec::new();
+    let mut car = None;
+    for (call, outcome) in calls.iter().zip(run_all(calls)) {
+        let bad = car.filter(|fields: &Fields| fields.car().is_none());
+        if let (Call::Lesson { words: events, .. }, Some(fields)) = (call, bad) {
+            words.extend(car_mark(fields, 0, events));
+        }
+        car = outcome.and_then(|outcome| outcome.car);
+    }
+    words
+}
+
+/// A lesson of so many events of a long exercise file that first passes its mark at its event `at`.
+fn passed_at(folder: &Folder, at: usize, count: usize) -> Result<Mark, String> {
+    let events = folder.listed(LONG_MARKED)?;
+    let mark = |part: &Range<usize>| events[part.start + at - 1].speed;
+    let mut parts = (0..(events.len() + 1).saturating_sub(count)).map(|from| from..from + count);
+    let passing = parts.find(|part| listed_passing(&events, part.clone(), mark(part)).event == Some(at));
+    let part = passing.ok_or_else(|| format!("{LONG_MARKED}: no lesson first passes a mark at {at}"))?;
+    cut_lesson(folder, LONG_MARKED, part.clone(), mark(&part))
+}
+
+/// A lesson that is some events of an exercise file. The car is the model's; the passing is held to the listing.
+fn cut_lesson(folder: &Folder, name: &str, part: Range<usize>, mark: u32) -> Result<Mark, String> {
+    folder.hold_passings(name, part.clone(), &[mark])?;
+    let words = words_of(&folder.bytes(&format!("{name}.bin"))?.unwrap_or_default());
+    let (_, car) = started(name, &words)?.seconds(&words[1..=part.start]);
+    Ok(Mark { mark, start: Start::Record(car.write().to_vec()), words: words[1..][part].to_vec() })
+}
+
+fn marked_file(folder: &Folder, name: &str, cut: u32, chosen: Chosen) -> Result<Vec<u32>, String> {
+    let mut file = folder.bytes(&format!("{name}.bin"))?.unwrap_or_default();
+    file.truncate(FILE_BYTES);
+    let mut events = folder.listed(name)?;
+    events.truncate((file.len() / 4).saturating_sub(1));
+    let mark = chosen_mark(&events, chosen);
+    folder.hold_passings(name, 0..events.len(), &[mark])?;
+    Ok([&[3, mark], &cut_file(file, cut)[..]].concat())
+}
+
+fn chosen_mark(events: &[Listed], chosen: Chosen) -> u32 {
+    let mut speeds = events.iter().map(|event| event.speed);
+    match chosen {
+        Chosen::Zero => 0,
+        Chosen::First => speeds.find(|&speed| speed > 0).unwrap_or(1),
+        Chosen::Top => speeds.max().unwrap_or(0),
+        Chosen::Never => speeds.max().unwrap_or(0) + 1,
+    }
+}
+
+// ---------------------------------------------------------------- mark
+
+/// The mark that the program is asked for.
+pub const MARK: u32 = 1990;
+/// How many words that no car takes stand before the events of its exercise file, which pass the mark early and many
+/// times, so that the find is some pages from the start.
+const NOT_TAKEN: usize = 3100;
+/// The exercise file that they are from.
+const ANY_WORDS: &str = "random-words";
+
+/// A settings word, refused words, a long exercise file's events and a cut word. The listing of that file says when the
+/// mark is passed, since a refused word changes no car.
+pub fn mark(folder: &Folder) -> Result<Vec<u8>, String> {
+    let Some(file) = folder.bytes(&format!("{CYCLE}.bin"))?.filter(|_| folder.has(&format!("{ANY_WORDS}.bin"))) else {
+        return stdin("mark");
+    };
+    let words = words_of(&file);
+    let not_taken = not_taken(&folder.listed(ANY_WORDS)?);
+    let events = [&not_taken, &words[1..]].concat();
+    let listed = listed_passing(&folder.listed(CYCLE)?, 0..words.len() - 1, MARK);
+    let moved = Passing { event: listed.event.map(|event| event + not_taken.len()), ..listed };
+    if started(CYCLE, &words)?.passing(&events, MARK) != moved {
+        return Err(format!("mark: the model does not pass {MARK} as {CYCLE}.txt does, {moved:?}"));
+    }
+    Ok([bytes_of(&words[..1]), bytes_of(&events), vec![1, 0]].concat())
+}
+
+/// Words whose refusals, 1 to 3, are the words' own, whatever the car.
+fn not_taken(events: &[Listed]) -> Vec<u32> {
+    let refused = events.iter().filter(|event| (1..=3).contains(&event.refusal)).map(|event| event.word);
+    refused.cycle().take(NOT_TAKEN).collect()
 }

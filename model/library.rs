@@ -37,6 +37,15 @@ mod c {
             room: usize,
             written: *mut usize,
         ) -> u32;
+        pub fn cruise_mark(
+            record: *const u32,
+            length: usize,
+            words: *const u32,
+            count: usize,
+            mark: u32,
+            event: *mut usize,
+            seconds: *mut usize,
+        ) -> u32;
     }
 }
 
@@ -112,5 +121,15 @@ pub fn copy(settings: u32, words: Option<&[u32]>, copy: Option<&mut [u32]>) -> (
     let (copy, room) = lent_mut(copy);
     let mut out = [GUARD as usize; 3];
     let refusal = unsafe { c::cruise_copy(settings, words, count, copy, room, out.as_mut_ptr().add(1)) };
+    (refusal, out)
+}
+
+/// The refusal, and: guard, event, guard, seconds, guard.
+pub fn mark(record: Option<&[u32]>, words: Option<&[u32]>, mark: u32) -> (u32, [usize; 5]) {
+    let (record, length) = lent(record);
+    let (words, count) = lent(words);
+    let mut out = [GUARD as usize; 5];
+    let cells = out.as_mut_ptr();
+    let refusal = unsafe { c::cruise_mark(record, length, words, count, mark, cells.add(1), cells.add(3)) };
     (refusal, out)
 }

@@ -1,5 +1,5 @@
-//! Compares libcruise.a, the programs `lesson` and `clean` and the test programs' expected outputs with a model of
-//! document 01, and measures the library and the model.
+//! Compares libcruise.a, the programs `lesson`, `clean` and `mark` and the test programs' expected outputs with a model
+//! of document 01, and measures the library and the model.
 
 mod calls;
 mod compare;
@@ -21,13 +21,14 @@ use std::process::ExitCode;
 use std::time::Instant;
 
 const USAGE: &str = "usage: [tests [DIR] | compare [SEED] | program [SEED] | replay KIND SEED | speed | once WORKLOAD WAY]
-compare tries the library, program the programs `lesson` and `clean`; with no argument tests, compare, program are run
+compare tries the library, program the programs `lesson`, `clean` and `mark`; with no argument tests, compare, program
+are run
 tests holds the test programs' expected outputs to the model; with DIR, a folder of outside vectors, it holds that folder's
 answers to the model and then writes the programs' inputs and expected outputs
-KIND is one of fresh, walk, lesson, damaged, cars, alike, tuned, copy of the library, short, failing, pages, file, pipe,
-live, clean of the programs; a SEED is decimal or 0x hexadecimal
-WORKLOAD is one of mixed, accepted, ticks, random, fresh-ticks, fresh-random; WAY is one of library, tuned and, where
-the car is fresh (all but ticks and random), copy, exact";
+KIND is one of fresh, walk, lesson, damaged, cars, alike, tuned, copy, mark of the library, short, failing, pages, file,
+pipe, live, clean, edges of the programs; a SEED is decimal or 0x hexadecimal
+WORKLOAD is one of mixed, accepted, ticks, random, fresh-ticks, fresh-random, half; WAY is one of library, tuned, never,
+often, where the car is fresh (all but ticks and random) copy, exact, and of half mark, found, found-lesson";
 
 fn main() -> ExitCode {
     let start = Instant::now();

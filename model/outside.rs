@@ -1,10 +1,12 @@
 //! A folder of outside vectors: its inputs, and its answers held to the model's.
 
-use crate::calls::{run_all, Call, Copy, Fields, Outcome};
+use crate::calls::{run_all, Call, Copy, Fields, Mark, Outcome, Start};
 use crate::exercise::{bytes_of, is_refused, words_of, Given};
-use crate::paper::{Car, Event};
+use crate::paper::{Car, Event, Passing};
 use crate::parts::Parts;
+use std::collections::BTreeSet;
 use std::fs;
+use std::ops::Range;
 use std::path::PathBuf;
 
 pub struct Folder {
@@ -56,6 +58,11 @@ impl Folder {
         self.lines("copy.in", read_copy)
     }
 
+    /// The marks of mark.in.
+    pub fn marks(&self) -> Result<Option<Vec<Mark>>, String> {
+        self.lines("mark.in", read_mark)
+    }
+
     /// A file's lines, each as it is read.
     fn lines<T>(&self, name: &str, read: fn(&str) -> Option<T>) -> Result<Option<Vec<T>>, String> {
         let Some(text) = self.text(name)? else {
@@ -74,6 +81,21 @@ impl Folder {
         let records: Option<Vec<_>> = text.lines().map(record).collect();
         records.map(Some).ok_or_else(|| String::from("records.txt: a record that is no list of words"))
     }
+
+    /// The events of NAME.bin as NAME.txt lists them.
+    pub fn listed(&self, name: &str) -> Result<Vec<Listed>, String> {
+        let words = words_of(&self.bytes(&format!("{name}.bin"))?.unwrap_or_default());
+        let listing = self.answers(&format!("{name}.txt"))?;
+        let events = words.iter().skip(1).zip(listing.lines().skip(1)).map(|(&word, line)| read_listed(word, line));
+        events.collect::<Option<_>>().ok_or_else(|| format!("{name}.txt: a line that is no event's"))
+    }
+}
+
+/// An event in a listing: its word, and what its line shows.
+pub struct Listed {
+    pub word: u32,
+    pub refusal: u32,
+    pub speed: u32,
 }
 
 fn hex_words(text: &str) -> Option<Vec<u32>> {
@@ -115,6 +137,24 @@ fn read_copy(line: &str) -> Option<Copy> {
     }
 }
 
+/// The mark, settings with towing, which today's do not have, or a record, and behind a colon the words.
+fn read_mark(line: &str) -> Option<Mark> {
+    let (start, words) = line.split_once(':')?;
+    let (mark, start) = match &start.split_whitespace().collect::<Vec<_>>()[..] {
+        [mark, "fresh", mode, signs, "0"] => {
+            (mark.parse().ok()?, Start::Fresh { mode: mode.parse().ok()?, signs: signs.parse().ok()? })
+        }
+        [mark, "rec", record @ ..] => (mark.parse().ok()?, Start::Record(hex_parts(record)?)),
+        _ => return None,
+    };
+    Some(Mark { mark, start, words: hex_words(words)? })
+}
+
+fn read_listed(word: u32, line: &str) -> Option<Listed> {
+    let mut figures = line.split(' ').skip(1).map(|figure| figure.parse().ok());
+    Some(Listed { word, refusal: figures.next()??, speed: figures.next()?? })
+}
+
 fn read_change(text: &str) -> Option<(String, u32)> {
     let (name, value) = text.split_once('=')?;
     Some((String::from(name), value.parse().ok()?))
@@ -125,8 +165,11 @@ fn read_change(text: &str) -> Option<(String, u32)> {
 impl Folder {
     /// Holds every answer that the folder gives to the model's. Gives the number of lines.
     pub fn hold(&self) -> Result<usize, String> {
-        let mut lines =
-            self.hold_calls("calls")? + self.hold_calls("edges")? + self.hold_records()? + self.hold_copies()?;
+        let mut lines = self.hold_calls("calls")?
+            + self.hold_calls("edges")?
+            + self.hold_records()?
+            + self.hold_copies()?
+            + self.hold_marks()?;
         for name in self.names.iter().filter_map(|name| name.strip_suffix(".bin")) {
             lines += self.hold_listing(name)?;
         }
@@ -164,8 +207,16 @@ impl Folder {
         hold_lines("copy.txt", &self.answers("copy.txt")?, &model)
     }
 
+    fn hold_marks(&self) -> Result<usize, String> {
+        let Some(marks) = self.marks()? else {
+            return Ok(0);
+        };
+        let model: Vec<String> = marks.iter().map(mark_answer).collect();
+        hold_lines("mark.txt", &self.answers("mark.txt")?, &model)
+    }
+
     /// Holds NAME.txt to the model's listing of NAME.bin, and its refusals 1 to 3, which come before all others, to
-    /// the model's readings of the words; and the model's clean file of NAME.bin to NAME.txt.
+    /// the model's readings of the words; and the model's clean file of NAME.bin and what it says of marks to NAME.txt.
     fn hold_listing(&self, name: &str) -> Result<usize, String> {
         let file = self.bytes(&format!("{name}.bin"))?.unwrap_or_default();
         let answers = format!("{name}.txt");
@@ -185,8 +236,47 @@ impl Folder {
             }
         }
         hold_clean(&answers, &file, &given)?;
+        let events = self.listed(name)?;
+        let speeds: BTreeSet<u32> = events.iter().flat_map(|event| [event.speed, event.speed + 1]).collect();
+        let marks: Vec<u32> = speeds.into_iter().chain([0, 5000, 5001, u32::MAX]).collect();
+        self.hold_passings(name, 0..events.len(), &marks)?;
         Ok(lines)
     }
+
+    /// Holds what the model says of marks in some events of NAME.bin to NAME.txt.
+    pub fn hold_passings(&self, name: &str, part: Range<usize>, marks: &[u32]) -> Result<(), String> {
+        let words = words_of(&self.bytes(&format!("{name}.bin"))?.unwrap_or_default());
+        let Some(fresh) = words.first().and_then(|&settings| Car::start(settings).ok()) else {
+            return Ok(());
+        };
+        let (words, events) = (&words[1..], self.listed(name)?);
+        let (_, car) = fresh.seconds(&words[..part.start]);
+        let (seconds, _) = car.seconds(&words[part.clone()]);
+        for &mark in marks {
+            let [folder, model] = [listed_passing(&events, part.clone(), mark), Passing::of(&seconds, mark)];
+            if folder != model {
+                let what = format!("{name}.txt, mark {mark} in the events behind {}", part.start);
+                return Err(difference(&what, "folder", &format!("{folder:?}"), &format!("{model:?}")));
+            }
+        }
+        Ok(())
+    }
+}
+
+/// What some of a listing's events say of a mark: a second is a tick with no refusal.
+pub fn listed_passing(events: &[Listed], part: Range<usize>, mark: u32) -> Passing {
+    let mut passing = Passing { event: None, seconds: 0 };
+    let mut speed = part.start.checked_sub(1).map_or(0, |last| events[last].speed);
+    for (number, event) in (1..).zip(&events[part]) {
+        if event.word >> 28 == 10 && event.refusal == 0 && event.speed >= mark {
+            passing.seconds += 1;
+            if speed < mark {
+                passing.event = passing.event.or(Some(number));
+            }
+        }
+        speed = event.speed;
+    }
+    passing
 }
 
 /// Holds the model's clean file to a listing: the settings word and the words whose line shows no refusal; 17 and 21 as
@@ -212,6 +302,18 @@ fn hold_clean(name: &str, file: &[u8], listing: &str) -> Result<(), String> {
 fn copy_answer(outcome: &Outcome) -> String {
     let Outcome { refusal, accepted, buffer, .. } = outcome;
     format!("refusal {refusal} written {accepted} buffer {}", hex(buffer))
+}
+
+/// A mark's answer as a folder gives it.
+fn mark_answer(mark: &Mark) -> String {
+    match mark.start.car() {
+        Ok(car) => {
+            let Passing { event, seconds } = car.passing(&mark.words, mark.mark);
+            let first = event.map_or(String::from("never"), |event| event.to_string());
+            format!("refusal 0 first {first} seconds {seconds}")
+        }
+        Err(refusal) => format!("refused {refusal}"),
+    }
 }
 
 /// A call's answer and the car afterwards, as a folder gives them.

@@ -864,6 +864,58 @@ impl Car {
     }
 }
 
+// ---------------------------------------------------------------- The event that passed a mark
+
+/// A second of a lesson, an accepted tick: its number among the events, counted from 1, and v before and after it.
+#[derive(Clone, Copy, Debug)]
+pub struct Second {
+    pub event: usize,
+    pub before: u32,
+    pub after: u32,
+}
+
+/// What a lesson says of a speed mark.
+#[derive(Clone, Copy, PartialEq, Eq, Debug)]
+pub struct Passing {
+    /// The number of the event at which v first went from below the mark to the mark or above; none is never.
+    pub event: Option<usize>,
+    /// How many seconds ended at or above the mark.
+    pub seconds: usize,
+}
+
+impl Passing {
+    pub fn of(seconds: &[Second], mark: u32) -> Passing {
+        let first = seconds.iter().find(|second| second.before < mark && second.after >= mark);
+        Passing {
+            event: first.map(|second| second.event),
+            seconds: seconds.iter().filter(|second| second.after >= mark).count(),
+        }
+    }
+}
+
+impl Car {
+    /// The seconds of a lesson from a good car, and the car after it. Refused events are counted in the numbering.
+    pub fn seconds(&self, words: &[u32]) -> (Vec<Second>, Car) {
+        let mut car = *self;
+        let mut seconds = Vec::new();
+        for (event, &word) in (1..).zip(words) {
+            let Ok(next) = car.drive(word) else {
+                continue;
+            };
+            if matches!(Event::read(word), Ok(Event::Tick { .. })) {
+                seconds.push(Second { event, before: car.speed as u32, after: next.speed as u32 });
+            }
+            car = next;
+        }
+        (seconds, car)
+    }
+
+    /// A lesson from a good car and a speed mark.
+    pub fn passing(&self, words: &[u32], mark: u32) -> Passing {
+        Passing::of(&self.seconds(words).0, mark)
+    }
+}
+
 // ---------------------------------------------------------------- The cab, alike, and the program
 
 /// What the program and the library show of a car.

@@ -1,6 +1,6 @@
-//! The programs `lesson` and `clean` against the model: what they give for an exercise file by each way in, what they
-//! tell of failures, their help and their usage. Each case is tried on both, and grows from one 64-bit seed, so that it
-//! can be run again alone.
+//! The programs `lesson`, `clean` and `mark` against the model: what they give for an exercise file by each way in,
+//! what they tell of failures, their help and their usage. Each case is tried on every program that it is for, and
+//! grows from one 64-bit seed, so that it can be run again alone.
 
 use crate::exercise::{bytes_of, is_refused, words_of, Given};
 use crate::paper::Car;
@@ -30,6 +30,8 @@ const SIGPIPE: i32 = 13;
 enum Program {
     Lesson,
     Clean,
+    /// Takes a speed mark before the file's name, and prints a few lines at the file's end.
+    Mark,
 }
 
 impl Program {
@@ -37,6 +39,15 @@ impl Program {
         match self {
             Program::Lesson => "lesson",
             Program::Clean => "clean",
+            Program::Mark => "mark",
+        }
+    }
+
+    /// Its arguments as its usage has them.
+    fn arguments(self) -> &'static str {
+        match self {
+            Program::Lesson | Program::Clean => "[FILE]",
+            Program::Mark => "MARK [FILE]",
         }
     }
 
@@ -44,17 +55,14 @@ impl Program {
         format!("target/bin/{}", self.name())
     }
 
-    /// What it gives for an exercise file.
-    fn given(self, file: &[u8]) -> Given {
-        match self {
-            Program::Lesson => Given::listing(file),
-            Program::Clean => Given::clean(file),
-        }
+    /// Does it print while the file still comes, and the more the longer it is?
+    fn is_live(self) -> bool {
+        !matches!(self, Program::Mark)
     }
 
     fn parts(self) -> Parts {
         match self {
-            Program::Lesson => Parts::Lines,
+            Program::Lesson | Program::Mark => Parts::Lines,
             Program::Clean => Parts::Words,
         }
     }
@@ -71,17 +79,22 @@ pub enum Kind {
     Pipe,
     Live,
     Clean,
+    Edges,
 }
 
-/// Each kind's name, and how many cases of it are a run.
-const KINDS: [(Kind, &str, u32); 7] = [
-    (Kind::Short, "short", 5),
-    (Kind::Failing, "failing", 10),
-    (Kind::Pages, "pages", 2),
-    (Kind::File, "file", 500),
-    (Kind::Pipe, "pipe", 300),
-    (Kind::Live, "live", 300),
-    (Kind::Clean, "clean", 200),
+const ALL_PROGRAMS: &[Program] = &[Program::Lesson, Program::Clean, Program::Mark];
+const LIVE_PROGRAMS: &[Program] = &[Program::Lesson, Program::Clean];
+
+/// Each kind's name, how many cases of it are a run, and the programs it is for.
+const KINDS: [(Kind, &str, u32, &[Program]); 8] = [
+    (Kind::Short, "short", 5, ALL_PROGRAMS),
+    (Kind::Failing, "failing", 10, ALL_PROGRAMS),
+    (Kind::Pages, "pages", 2, ALL_PROGRAMS),
+    (Kind::File, "file", 500, ALL_PROGRAMS),
+    (Kind::Pipe, "pipe", 300, ALL_PROGRAMS),
+    (Kind::Live, "live", 300, LIVE_PROGRAMS),
+    (Kind::Clean, "clean", 200, LIVE_PROGRAMS),
+    (Kind::Edges, "edges", 200, &[Program::Mark]),
 ];
 
 impl Kind {
@@ -92,13 +105,17 @@ impl Kind {
     fn name(self) -> &'static str {
         KINDS[self as usize].1
     }
+
+    fn programs(self) -> &'static [Program] {
+        KINDS[self as usize].3
+    }
 }
 
 /// All cases: true when model and programs agree everywhere.
 pub fn run(seed: u64) -> bool {
     let mut tally = Tally::default();
     let mut seeds = Random::new(seed);
-    for (kind, _, cases) in KINDS {
+    for (kind, _, cases, _) in KINDS {
         for _ in 0..cases {
             let case_seed = seeds.next();
             if let Err(difference) = run_case(kind, case_seed, &mut tally, false) {
@@ -136,8 +153,9 @@ fn run_case(kind: Kind, seed: u64, tally: &mut Tally, shown: bool) -> Result<(),
         Kind::Pipe => pipe_case,
         Kind::Live => live_case,
         Kind::Clean => clean_case,
+        Kind::Edges => edges_case,
     };
-    for program in [Program::Lesson, Program::Clean] {
+    for &program in kind.programs() {
         case(&mut Bench { program, tally, shown }, &mut Random::new(seed))?;
     }
     Ok(())
@@ -146,10 +164,13 @@ fn run_case(kind: Kind, seed: u64, tally: &mut Tally, shown: bool) -> Result<(),
 /// Each length of up to three words, by each way in.
 fn short_case(bench: &mut Bench, random: &mut Random) -> Result<(), Difference> {
     for length in 0..=12 {
-        let exercise = bench.exercise(any_file(random, length));
+        let file = any_file(random, length);
+        let exercise = bench.exercise(random, file);
         bench.take_file(random, &exercise)?;
         bench.take_pieces(random, &exercise)?;
-        bench.take_live(random, &exercise)?;
+        if bench.program.is_live() {
+            bench.take_live(random, &exercise)?;
+        }
     }
     Ok(())
 }
@@ -159,7 +180,7 @@ fn pages_case(bench: &mut Bench, random: &mut Random) -> Result<(), Difference> 
     let file = good_file(random, 24 * PAGE);
     for pages in [1, 2, 3, 4, 5, 16, 22, 23] {
         for length in pages * PAGE - 9..=pages * PAGE + 13 {
-            let exercise = bench.exercise(file[..length].to_vec());
+            let exercise = bench.exercise(random, file[..length].to_vec());
             bench.take_file(random, &exercise)?;
         }
     }
@@ -192,56 +213,73 @@ fn live_case(bench: &mut Bench, random: &mut Random) -> Result<(), Difference> {
 fn clean_case(bench: &mut Bench, random: &mut Random) -> Result<(), Difference> {
     let widest = random.pick(&[400, 4000, 40_000, 100_000]);
     let length = 4 + some_length(random, widest);
-    let exercise = bench.exercise(good_file(random, length));
+    let file = good_file(random, length);
+    let exercise = bench.exercise(random, file);
     bench.take_file(random, &exercise)?;
     let clean = Given::clean(&exercise.file).output;
     let output = match bench.program {
         Program::Lesson => Output::Unrefused(last_figures(&exercise.given.output)),
-        Program::Clean => Output::Bytes(&clean),
+        _ => Output::Bytes(&clean),
     };
     keep(&clean);
     bench.run(bench.call(&[]).input(FILE), Due { output, errors: Errors::Nothing, signal: None })
+}
+
+/// A file whose speeds are first reached round the end of a page, with the settings word counted and not.
+fn edges_case(bench: &mut Bench, random: &mut Random) -> Result<(), Difference> {
+    let still = random.pick(&[1, 2, 3]) * PAGE / 4 - random.below(10) as usize;
+    let ticks = random.pick(&[1, 2, 9, 60, 1200]);
+    let words = random::late_start(random, still, ticks);
+    let file = bytes_of(&[&[random::good_settings(random)], &words[..]].concat());
+    let exercise = bench.exercise(random, file);
+    bench.take_file(random, &exercise)?;
+    bench.take_pieces(random, &exercise)
 }
 
 /// Reads and writes that fail, help and usage.
 fn failing_case(bench: &mut Bench, random: &mut Random) -> Result<(), Difference> {
     let short = bench.any_exercise(random, 4000);
     let length = some_length(random, 8000);
-    let middling = bench.exercise(good_file(random, length));
-    let long = bench.exercise(long_file(random));
+    let file = good_file(random, length);
+    let middling = bench.exercise(random, file);
+    let file = long_file(random);
+    let long = bench.exercise(random, file);
     for exercise in [&short, &long] {
         keep(&exercise.file);
         failed_outputs(bench, exercise)?;
         bench.take_with_input_closed(exercise)?;
         bench.leave_at_once(exercise)?;
     }
-    failed_inputs(bench)?;
+    failed_inputs(bench, &short)?;
     bench.reset_input(&middling)?;
-    bench.fill_output(&long)?;
-    bench.leave_midway(&long, 1 + random.below(5000) as usize)?;
+    if bench.program.is_live() {
+        bench.fill_output(&long)?;
+        bench.leave_midway(&long, 1 + random.below(5000) as usize)?;
+    }
     help(bench)?;
     usage(bench)
 }
 
 /// Files that are not there, directories, and an input that is closed.
-fn failed_inputs(bench: &mut Bench) -> Result<(), Difference> {
+fn failed_inputs(bench: &mut Bench, exercise: &Exercise) -> Result<(), Difference> {
+    let unnamed = exercise.arguments(None);
     let missing: [&[u8]; 5] = [b"none", b"target/no exercise", "n\u{e4}her".as_bytes(), b"\xFF", &[b'x'; 255]];
     for name in missing {
         let told = bench.told(&[name, b": No such file or directory\n"].concat());
-        bench.run(bench.call(&[name]), Due::told(told))?;
+        bench.run(bench.call(&exercise.arguments(Some(name))), Due::told(told))?;
     }
     for name in [".", "target", "/"] {
         let told = bench.told(format!("{name}: Is a directory\n").as_bytes());
-        bench.run(bench.call(&[name.as_bytes()]), Due::told(told))?;
+        bench.run(bench.call(&exercise.arguments(Some(name.as_bytes()))), Due::told(told))?;
         let told = bench.told(b"standard input: Is a directory\n");
-        bench.run(bench.call(&[]).input(name), Due::told(told.clone()))?;
-        bench.run(bench.call(&[]).input(name).full_output(), Due::told(told))?;
+        bench.run(bench.call(&unnamed).input(name), Due::told(told.clone()))?;
+        bench.run(bench.call(&unnamed).input(name).full_output(), Due::told(told))?;
     }
     let inside = format!("{FILE}/inside");
     let told = bench.told_more(&format!("{inside}: "));
-    bench.run(bench.call(&[inside.as_bytes()]), Due::told(told))?;
+    bench.run(bench.call(&exercise.arguments(Some(inside.as_bytes()))), Due::told(told))?;
     let told = bench.told_more("standard input: ");
-    bench.run(bench.call_closing("<&-", &[]), Due::told(told))
+    bench.run(bench.call_closing("<&-", &unnamed), Due::told(told))
 }
 
 /// An output with no room, and one that is closed: both are told where there is something to write.
@@ -249,11 +287,12 @@ fn failed_outputs(bench: &mut Bench, exercise: &Exercise) -> Result<(), Differen
     let due = |told: Errors| if exercise.given.output.is_empty() { exercise.taken() } else { Due::told(told) };
     let full = bench.told(b"standard output: No space left on device\n");
     let closed = bench.told(b"standard output: Bad file descriptor\n");
-    bench.run(bench.call(&[]).input(FILE).full_output(), due(full.clone()))?;
-    bench.run(bench.call(&[FILE.as_bytes()]).full_output(), due(full.clone()))?;
+    let (unnamed, named) = (exercise.arguments(None), exercise.arguments(Some(FILE.as_bytes())));
+    bench.run(bench.call(&unnamed).input(FILE).full_output(), due(full.clone()))?;
+    bench.run(bench.call(&named).full_output(), due(full.clone()))?;
     bench.run(bench.call(&[b"--help"]).full_output(), Due::told(full))?;
-    bench.run(bench.call_closing(">&-", &[]).input(FILE), due(closed.clone()))?;
-    bench.run(bench.call_closing(">&-", &[FILE]), due(closed))
+    bench.run(bench.call_closing(">&-", &unnamed).input(FILE), due(closed.clone()))?;
+    bench.run(bench.call_closing(">&-", &named), due(closed))
 }
 
 fn help(bench: &mut Bench) -> Result<(), Difference> {
@@ -261,38 +300,87 @@ fn help(bench: &mut Bench) -> Result<(), Difference> {
     bench.run(bench.call(&[b"--help"]).input(FILE), due)
 }
 
-/// Every other use: one argument that starts with `-`, or more than one.
+/// Every other use.
 fn usage(bench: &mut Bench) -> Result<(), Difference> {
-    let uses: [&[&[u8]]; 11] = [
-        &[b"-"],
-        &[b"--"],
-        &[b"-h"],
-        &[b"--hel"],
-        &[b"--helps"],
-        &[b"--help", b"--help"],
-        &[b"--help", FILE.as_bytes()],
-        &[FILE.as_bytes(), b"--help"],
-        &[FILE.as_bytes(), FILE.as_bytes()],
-        &[b"none", b"none"],
-        &[FILE.as_bytes(), b"", b"none"],
-    ];
-    let name = bench.program.name();
-    let told = format!("usage: {name} [FILE] ({name} --help says more)\n").into_bytes();
+    let uses = match bench.program {
+        Program::Lesson | Program::Clean => file_misuses(),
+        Program::Mark => mark_misuses(),
+    };
+    let (name, arguments) = (bench.program.name(), bench.program.arguments());
+    let told = format!("usage: {name} {arguments} ({name} --help says more)\n").into_bytes();
     for arguments in uses {
-        bench.run(bench.call(arguments).input(FILE), Due::told(Errors::Line(told.clone())))?;
+        bench.run(bench.call(&arguments).input(FILE), Due::told(Errors::Line(told.clone())))?;
     }
     Ok(())
 }
 
+/// One argument that starts with `-`, or more than one.
+fn file_misuses() -> Vec<Vec<&'static [u8]>> {
+    let file = FILE.as_bytes();
+    vec![
+        vec![b"-"],
+        vec![b"--"],
+        vec![b"-h"],
+        vec![b"--hel"],
+        vec![b"--helps"],
+        vec![b"--help", b"--help"],
+        vec![b"--help", file],
+        vec![file, b"--help"],
+        vec![file, file],
+        vec![b"none", b"none"],
+        vec![file, b"", b"none"],
+    ]
+}
+
+/// None, a first one that is no number or too great, with a file and without, or more than two.
+fn mark_misuses() -> Vec<Vec<&'static [u8]>> {
+    let file = FILE.as_bytes();
+    let no_marks: [&[u8]; 22] = [
+        b"",
+        b"-",
+        b"--",
+        b"-h",
+        b"--hel",
+        b"--helps",
+        b"-1",
+        b"+5",
+        b"12x",
+        b"x12",
+        b"0x10",
+        b"50.0",
+        b"1e3",
+        b" 5",
+        b"5 ",
+        b"5\n",
+        b"\xD9\xA3",
+        b"4294967296",
+        b"42949672950",
+        b"0004294967296",
+        b"18446744073709551616",
+        &[b'9'; 100],
+    ];
+    let mut uses: Vec<Vec<&[u8]>> = vec![vec![]];
+    uses.extend(no_marks.iter().flat_map(|&mark| [vec![mark], vec![mark, file]]));
+    uses.extend([vec![b"--help", file], vec![file], vec![file, b"500"]]);
+    uses.extend([vec![b"500", file, file], vec![b"500", file, b""], vec![b"500", b"none", b"none", b"none"]]);
+    uses
+}
+
 // ---------------------------------------------------------------- Exercise files
 
-/// An exercise file, and what the program under test gives for it.
+/// An exercise file, and what the program under test gives for it, of `mark` for a speed mark, here as its argument.
 struct Exercise {
     file: Vec<u8>,
     given: Given,
+    mark: Option<String>,
 }
 
 impl Exercise {
+    /// The program's arguments for the file by this name, or by standard input.
+    fn arguments<'a>(&'a self, name: Option<&'a [u8]>) -> Vec<&'a [u8]> {
+        self.mark.iter().map(|mark| mark.as_bytes()).chain(name).collect()
+    }
+
     /// Has it a first word that is refused? Then the program reads no more.
     fn has_bad_settings(&self) -> bool {
         words_of(&self.file).first().is_some_and(|&settings| Car::start(settings).is_err())
@@ -309,6 +397,14 @@ impl Exercise {
 /// Makes it the file of the runs to come.
 fn keep(file: &[u8]) {
     fs::write(FILE, file).unwrap_or_else(|error| panic!("{FILE}: {error}"));
+}
+
+/// A speed mark for a file.
+fn some_mark(random: &mut Random, file: &[u8]) -> u32 {
+    let words = words_of(file);
+    let car = words.first().and_then(|&settings| Car::start(settings).ok());
+    let seconds = car.map_or(Vec::new(), |car| car.seconds(&words[1..]).0);
+    random::mark(random, &seconds)
 }
 
 /// Any length up to `widest`, or one near a whole page.
@@ -573,10 +669,11 @@ impl Bench<'_> {
     }
 
     /// With one of its files closed by the shell.
-    fn call_closing(&self, redirection: &str, arguments: &[&str]) -> Call {
+    fn call_closing(&self, redirection: &str, arguments: &[&[u8]]) -> Call {
         let mut command = Command::new("sh");
         let script = format!("exec \"$0\" \"$@\" {redirection}");
-        command.args(["-c", &script, &self.program.path()]).args(arguments);
+        command.args(["-c", &script, &self.program.path()]);
+        command.args(arguments.iter().map(|argument| OsStr::from_bytes(argument)));
         Call::new(command)
     }
 
@@ -590,14 +687,23 @@ impl Bench<'_> {
         Errors::LineFrom(format!("{}: {start}", self.program.name()))
     }
 
-    fn exercise(&self, file: Vec<u8>) -> Exercise {
-        Exercise { given: self.program.given(&file), file }
+    fn exercise(&self, random: &mut Random, file: Vec<u8>) -> Exercise {
+        match self.program {
+            Program::Lesson => Exercise { given: Given::listing(&file), mark: None, file },
+            Program::Clean => Exercise { given: Given::clean(&file), mark: None, file },
+            Program::Mark => {
+                let mark = some_mark(random, &file);
+                let zeros = "0".repeat(random.pick(&[0, 0, 0, 1, 3, 30]));
+                Exercise { given: Given::mark(&file, mark), mark: Some(format!("{zeros}{mark}")), file }
+            }
+        }
     }
 
     /// Any file of up to `widest` bytes.
     fn any_exercise(&self, random: &mut Random, widest: u32) -> Exercise {
         let length = some_length(random, widest);
-        self.exercise(any_file(random, length))
+        let file = any_file(random, length);
+        self.exercise(random, file)
     }
 
     fn run(&mut self, call: Call, due: Due) -> Result<(), Difference> {
@@ -620,10 +726,10 @@ impl Bench<'_> {
     fn take_file(&mut self, random: &mut Random, exercise: &Exercise) -> Result<(), Difference> {
         keep(&exercise.file);
         self.tally.events += 2 * exercise.given.events() as u64;
-        self.run(self.call(&[]).input(FILE), exercise.taken())?;
+        self.run(self.call(&exercise.arguments(None)).input(FILE), exercise.taken())?;
         let detour = if random.once_in(20) { random.below(1900) } else { 0 };
         let name = "./".repeat(detour as usize) + FILE;
-        self.run(self.call(&[name.as_bytes()]), exercise.taken())
+        self.run(self.call(&exercise.arguments(Some(name.as_bytes()))), exercise.taken())
     }
 
     /// The pieces of a run, their sizes shown in a replay.
@@ -639,7 +745,7 @@ impl Bench<'_> {
     fn take_pieces(&mut self, random: &mut Random, exercise: &Exercise) -> Result<(), Difference> {
         keep(&exercise.file);
         self.tally.events += exercise.given.events() as u64;
-        let call = self.call(&[]).pipe();
+        let call = self.call(&exercise.arguments(None)).pipe();
         let session = Session::start(call.command, ALL);
         for piece in self.pieces(random, exercise) {
             session.send(piece);
@@ -679,12 +785,12 @@ impl Bench<'_> {
     /// The file by its name while standard input is closed, so that the file takes its number.
     fn take_with_input_closed(&mut self, exercise: &Exercise) -> Result<(), Difference> {
         self.tally.events += exercise.given.events() as u64;
-        self.run(self.call_closing("<&-", &[FILE]), exercise.taken())
+        self.run(self.call_closing("<&-", &exercise.arguments(Some(FILE.as_bytes()))), exercise.taken())
     }
 
     /// The reader is gone before the program can write, if it has something to write.
     fn leave_at_once(&mut self, exercise: &Exercise) -> Result<(), Difference> {
-        let call = self.call(&[]).pipe().note(", its reader gone");
+        let call = self.call(&exercise.arguments(None)).pipe().note(", its reader gone");
         let mut session = Session::start(call.command, 0);
         session.output.reach_end();
         session.send(&exercise.file);
@@ -718,7 +824,8 @@ impl Bench<'_> {
         keep(&exercise.file);
         let (mut ours, mut theirs) = UnixStream::pair().expect("a pair of sockets");
         theirs.write_all(b"!").expect("room for a byte");
-        let mut call = self.call(&[]).note(&format!(", its input a socket that fails after {FILE}"));
+        let mut call =
+            self.call(&exercise.arguments(None)).note(&format!(", its input a socket that fails after {FILE}"));
         call.command.stdin(OwnedFd::from(theirs));
         let mut session = Session::start(call.command, ALL);
         ours.write_all(&exercise.file).expect("room for a short file");

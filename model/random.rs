@@ -1,6 +1,6 @@
 //! Chance from a seed: plain numbers, event words, drives that get somewhere, cars and damaged records.
 
-use crate::paper::{held_desired, Car, ForeBack, Key, Mode, UpDown, CLOCK_END, NOT_READY, TEST_PERIOD};
+use crate::paper::{held_desired, Car, ForeBack, Key, Mode, Second, UpDown, CLOCK_END, NOT_READY, TEST_PERIOD};
 
 /// splitmix64.
 pub struct Random(u64);
@@ -263,6 +263,37 @@ fn run_of_words(random: &mut Random, car: Car, length: usize) -> Vec<u32> {
         _ => {
             let mut driver = Driver::new(random);
             lesson_words(random, &mut driver, car, length)
+        }
+    }
+}
+
+/// Words for a fresh car that stands for so many of them, then has its key turned on and gains speed by so many ticks.
+pub fn late_start(random: &mut Random, still: usize, ticks: usize) -> Vec<u32> {
+    let mut words: Vec<u32> = (0..still).map(|_| standing_word(random)).collect();
+    words.extend([word(1, 1), word(1, 6), word(5, 225)]);
+    words.extend(std::iter::repeat_n(word(10, 1), ticks));
+    words
+}
+
+/// A word that leaves a car with its key out standing there: a tick, or a refused word.
+fn standing_word(random: &mut Random) -> u32 {
+    match random.below(4) {
+        0 => random.word() >> 4,
+        1 => word(5, random.between(0, 255)),
+        _ => word(10, random.between(0, 1)),
+    }
+}
+
+/// A speed mark for a lesson: a v that occurs, or one beside it, an edge, or any.
+pub fn mark(random: &mut Random, seconds: &[Second]) -> u32 {
+    match random.below(8) {
+        0 => random.pick(&[0, 1, 5000, 5001, u32::MAX]),
+        1 => random.below(5001),
+        2 => random.word(),
+        _ if seconds.is_empty() => random.below(3),
+        _ => {
+            let Second { before, after, .. } = random.pick(seconds);
+            (random.pick(&[before, after]) + random.below(3)).saturating_sub(1)
         }
     }
 }

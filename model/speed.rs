@@ -1,7 +1,7 @@
 //! Measurements: the library, the plain model and the tuned one over the same words, in turn, in one run.
 
 use crate::library;
-use crate::paper::Car;
+use crate::paper::{Car, Passing, Second};
 use crate::random::{self, Driver, Random};
 use crate::tuned;
 use std::hint::black_box;
@@ -17,21 +17,52 @@ struct Workload {
     lessons: Vec<Lesson>,
 }
 
+impl Workload {
+    /// How many words its lessons have together.
+    fn words(&self) -> usize {
+        self.lessons.iter().map(|lesson| lesson.words.len()).sum()
+    }
+}
+
 struct Lesson {
     record: [u32; 12],
     words: Vec<u32>,
     /// How many of the words are accepted.
     accepted: usize,
+    /// A speed mark, and what the model says of it.
+    mark: u32,
+    passing: Passing,
 }
 
 impl Lesson {
     fn of((car, words): (Car, Vec<u32>)) -> Lesson {
-        Lesson { record: car.write(), accepted: car.accepted(&words).0.len(), words }
+        Lesson::marked(car, words, |_| 0)
+    }
+
+    fn marked(car: Car, words: Vec<u32>, choose: impl Fn(&[Second]) -> u32) -> Lesson {
+        let (seconds, _) = car.seconds(&words);
+        let mark = choose(&seconds);
+        let accepted = car.accepted(&words).0.len();
+        Lesson { record: car.write(), accepted, words, mark, passing: Passing::of(&seconds, mark) }
+    }
+
+    fn car(&self) -> Car {
+        Car::read(&self.record).expect("a good record")
     }
 
     /// The settings word of its car.
     fn settings(&self) -> u32 {
         0xD000_0000 | self.record[0] & 7
+    }
+
+    fn with_mark(&self, choose: fn(&[Second]) -> u32) -> Lesson {
+        Lesson::marked(self.car(), self.words.clone(), choose)
+    }
+
+    /// The lesson as far as the event that passes its mark.
+    fn up_to_find(&self) -> Lesson {
+        let event = self.passing.event.expect("a mark that is passed");
+        Lesson::marked(self.car(), self.words[..event].to_vec(), |_| self.mark)
     }
 }
 
@@ -63,8 +94,12 @@ pub fn run(start: Instant) {
     println!(
         "copy: cruise_copy with room for all words; exact: with room for the accepted alone; lesson: cruise_lesson"
     );
-    let [mixed, accepted, ..] = workloads;
-    print_copies(&[mixed, accepted, workload("ticks", fresh_ticks), workload("random words", fresh_random)]);
+    let [mixed, accepted, ticks, random] = workloads;
+    let copied = [mixed, accepted, workload("ticks", fresh_ticks), workload("random words", fresh_random)];
+    print_copies(&copied);
+    println!("\nmarks, ns per word, median of {RUNS} runs in turn: cruise_mark beside cruise_lesson on the same words");
+    println!("up to the find: the words as far as the event that passes the mark, and no more");
+    print_marks(&mark_rows(&copied, &ticks, &random));
 }
 
 /// One lesson of a workload by one way, for a tool that counts instructions while `counted` runs.
@@ -76,17 +111,23 @@ pub fn run_once(workload: &str, way: &str) -> Option<()> {
         "random" => random_words,
         "fresh-ticks" => fresh_ticks,
         "fresh-random" => fresh_random,
-        _ => return None,
-    };
-    let way: Way = match way {
-        "library" => library_lesson,
-        "tuned" => tuned_lesson,
-        "copy" => library_copy,
-        "exact" => library_exact_copy,
+        "half" => half_way_walk,
         _ => return None,
     };
     let lesson = Lesson::of(words(&mut Random::new(7)));
-    println!("{:08X}", counted(way, &lesson, &mut [0; LESSON_WORDS]));
+    let (way, lesson): (Way, Lesson) = match way {
+        "library" => (library_lesson, lesson),
+        "tuned" => (tuned_lesson, lesson),
+        "copy" => (library_copy, lesson),
+        "exact" => (library_exact_copy, lesson),
+        "never" => (library_mark, lesson.with_mark(never)),
+        "often" => (library_mark, lesson.with_mark(often)),
+        "mark" => (library_mark, lesson.with_mark(half_way)),
+        "found" => (library_mark, lesson.with_mark(half_way).up_to_find()),
+        "found-lesson" => (library_lesson, lesson.with_mark(half_way).up_to_find()),
+        _ => return None,
+    };
+    println!("{} words: {:08X}", lesson.words.len(), counted(way, &lesson, &mut [0; LESSON_WORDS]));
     Some(())
 }
 
@@ -155,6 +196,82 @@ fn fresh_ticks(random: &mut Random) -> (Car, Vec<u32>) {
 
 fn fresh_random(random: &mut Random) -> (Car, Vec<u32>) {
     (random::fresh_car(random), (0..LESSON_WORDS).map(|_| random.word()).collect())
+}
+
+/// The mark that this walk first passes half way.
+const HALF_WAY: i32 = 500;
+
+/// A sensible walk with some refusals in which, up to its middle, the gas let go or the brake takes the place of every
+/// word that would pass the mark.
+fn half_way_walk(random: &mut Random) -> (Car, Vec<u32>) {
+    let start = random::fresh_car(random);
+    let mut driver = Driver::with_noise(12);
+    let mut car = start;
+    let mut words = Vec::with_capacity(LESSON_WORDS);
+    while words.len() < LESSON_WORDS {
+        let word = driver.word(random, &car);
+        let passes = car.drive(word).is_ok_and(|next| next.speed >= HALF_WAY);
+        let word = match (passes && words.len() < LESSON_WORDS / 2, car.gas) {
+            (false, _) => word,
+            (true, 0) => 0x4000_00E1,
+            (true, _) => 0x5000_0000,
+        };
+        car = car.drive(word).unwrap_or(car);
+        words.push(word);
+    }
+    (start, words)
+}
+
+// ---------------------------------------------------------------- Marks
+
+/// One above the highest v.
+fn never(seconds: &[Second]) -> u32 {
+    seconds.iter().map(|second| second.before.max(second.after)).max().unwrap_or(0) + 1
+}
+
+/// The highest v, which is passed late.
+fn highest(seconds: &[Second]) -> u32 {
+    never(seconds) - 1
+}
+
+/// The one that is passed most often.
+fn often(seconds: &[Second]) -> u32 {
+    let mut passings = vec![0; never(seconds) as usize + 1];
+    for second in seconds.iter().filter(|second| second.before < second.after) {
+        passings[second.before as usize + 1..=second.after as usize].iter_mut().for_each(|count| *count += 1);
+    }
+    (0..).zip(passings).max_by_key(|&(_, count)| count).map_or(0, |(mark, _)| mark)
+}
+
+fn half_way(_: &[Second]) -> u32 {
+    HALF_WAY as u32
+}
+
+fn marked(workload: &Workload, choose: fn(&[Second]) -> u32) -> Workload {
+    Workload { name: workload.name, lessons: workload.lessons.iter().map(|lesson| lesson.with_mark(choose)).collect() }
+}
+
+fn up_to_find(workload: &Workload) -> Workload {
+    Workload { name: workload.name, lessons: workload.lessons.iter().map(Lesson::up_to_find).collect() }
+}
+
+/// Which mark, and the workload with it.
+fn mark_rows(copied: &[Workload; 4], ticks: &Workload, random: &Workload) -> Vec<(&'static str, Workload)> {
+    let [mixed, accepted, standing, _] = copied;
+    let half = marked(&workload("half-way walk", half_way_walk), half_way);
+    vec![
+        ("never passed", marked(mixed, never)),
+        ("passed often", marked(mixed, often)),
+        ("never passed", marked(accepted, never)),
+        ("passed often", marked(accepted, often)),
+        ("never passed", marked(ticks, never)),
+        ("never passed", marked(standing, never)),
+        ("0, counts each tick", marked(standing, |_| 0)),
+        ("never passed", marked(random, never)),
+        ("up to the find", up_to_find(&half)),
+        ("passed half way", half),
+        ("the highest, to the find", up_to_find(&marked(mixed, highest))),
+    ]
 }
 
 // ---------------------------------------------------------------- Ways
@@ -253,6 +370,19 @@ fn library_accepted(lesson: &Lesson, answers: &mut [u32]) -> u32 {
     refusal ^ counts[1] as u32
 }
 
+/// A mark of the lesson: 0 where the library says of it what the model does.
+fn library_mark(lesson: &Lesson, _: &mut [u32]) -> u32 {
+    let (refusal, out) = library::mark(Some(&lesson.record), Some(&lesson.words), lesson.mark);
+    let Passing { event, seconds } = lesson.passing;
+    refusal | u32::from((out[1], out[3]) != (event.unwrap_or(0), seconds))
+}
+
+/// The lesson itself: 0 where it runs.
+fn library_refusal(lesson: &Lesson, answers: &mut [u32]) -> u32 {
+    let mut record = lesson.record;
+    library::lesson(Some(&mut record), Some(&lesson.words), Some(answers)).0
+}
+
 // ---------------------------------------------------------------- Measuring
 
 fn print_pairs(name: &str, workloads: &[Workload], ways: &[(&str, Way); 2]) {
@@ -271,6 +401,19 @@ fn print_copies(workloads: &[Workload]) {
         let [copy, exact, lesson] = medians(workload, &ways);
         print!("{:<14}{copy:>10.2}{exact:>10.2}{lesson:>10.2}", workload.name);
         println!("{:>18.2}{:>18.2}", copy / lesson, exact / lesson);
+    }
+}
+
+fn print_marks(rows: &[(&str, Workload)]) {
+    print!("{:<15}{:<26}{:>10}{:>10}", "workload", "mark", "words", "found at");
+    println!("{:>10}{:>10}{:>14}", "mark", "lesson", "mark/lesson");
+    for (mark, workload) in rows {
+        let [marked, lesson] = medians(workload, &[("mark", library_mark), ("lesson", library_refusal)]);
+        let events = workload.lessons.iter().filter_map(|lesson| lesson.passing.event);
+        let found = events.clone().sum::<usize>().checked_div(events.count());
+        let found = found.map_or(String::from("never"), |event| event.to_string());
+        print!("{:<15}{mark:<26}{:>10}{found:>10}", workload.name, workload.words() / LESSONS);
+        println!("{marked:>10.2}{lesson:>10.2}{:>14.2}", marked / lesson);
     }
 }
 
@@ -294,7 +437,7 @@ fn medians<const WAYS: usize>(workload: &Workload, ways: &[(&str, Way); WAYS]) -
         let sums: [u32; WAYS] = std::array::from_fn(|way| {
             let start = Instant::now();
             let sum = once(workload, ways[way].1, &mut answers);
-            times[way][run] = start.elapsed().as_nanos() as f64 / (LESSONS * LESSON_WORDS) as f64;
+            times[way][run] = start.elapsed().as_nanos() as f64 / workload.words() as f64;
             sum
         });
         assert!(sums.iter().all(|&sum| sum == sums[0]), "the ways differ: {sums:?}");

@@ -13,6 +13,8 @@ struct Program {
     output: fn(&[u8]) -> Result<Vec<u8>, String>,
     parts: Parts,
     rooms: Rooms,
+    /// Its one argument.
+    argument: Option<u32>,
 }
 
 struct Rooms {
@@ -24,10 +26,11 @@ struct Rooms {
 const INPUT_ROOM: usize = 65_536;
 const TESTED: Rooms = Rooms { input: INPUT_ROOM, output: 131_072 - 21 };
 const COPIED: Rooms = Rooms { input: INPUT_ROOM, output: 524_288 - 21 };
+const MARKED: Rooms = Rooms { input: 2 * INPUT_ROOM, output: 131_072 - 21 };
 /// Those of a program that reads and prints piece by piece.
 const ANY: Rooms = Rooms { input: usize::MAX, output: usize::MAX };
 
-const PROGRAMS: [Program; 9] = [
+const PROGRAMS: [Program; 11] = [
     tested("event_words", inputs::event_words, expected::event_words),
     tested("car_figures", inputs::car_figures, expected::car_figures),
     tested("calls", inputs::calls, expected::calls),
@@ -35,8 +38,10 @@ const PROGRAMS: [Program; 9] = [
     tested("cruise_calls", inputs::cruise_calls, expected::cruise_calls),
     tested("cab_words", inputs::cab_words, expected::cab_words),
     Program { rooms: COPIED, ..tested("copies", inputs::copies, expected::copies) },
+    Program { rooms: MARKED, ..tested("marks", inputs::marks, expected::marks) },
     Program { rooms: ANY, ..tested(LESSON, inputs::lesson, expected::lesson) },
     Program { rooms: ANY, parts: Parts::Words, ..tested("clean", inputs::clean, expected::clean) },
+    Program { rooms: ANY, argument: Some(inputs::MARK), ..tested("mark", inputs::mark, expected::mark) },
 ];
 
 const fn tested(
@@ -44,7 +49,7 @@ const fn tested(
     input: fn(&Folder) -> Result<Vec<u8>, String>,
     output: fn(&[u8]) -> Result<Vec<u8>, String>,
 ) -> Program {
-    Program { name, input, output, parts: Parts::Lines, rooms: TESTED }
+    Program { name, input, output, parts: Parts::Lines, rooms: TESTED, argument: None }
 }
 
 const LESSON: &str = "lesson";
@@ -53,7 +58,7 @@ const LONGEST: &str = "clock-end.bin";
 /// The one that lists the files of its data/.
 const VECTORS: &str = "crates/vectors";
 /// The files of a folder that the programs' inputs come from beside those.
-const OTHERS: [&str; 5] = ["calls.in", "copy.in", "edges.in", "records.txt", LONGEST];
+const OTHERS: [&str; 6] = ["calls.in", "copy.in", "edges.in", "mark.in", "records.txt", LONGEST];
 
 /// Holds every `stdout` to the model's answers to its input: true when there is no difference.
 pub fn run() -> bool {
@@ -75,8 +80,14 @@ fn told(result: Result<String, String>) -> bool {
 
 fn hold() -> Result<String, String> {
     let mut held = 0;
-    for Program { name, output, parts, .. } in PROGRAMS {
+    for program in &PROGRAMS {
+        let Program { name, output, parts, .. } = *program;
         held += hold_output(name, &output(&stdin(name)?)?, parts)?;
+        if let Some((path, contents)) = arguments(program) {
+            if read(&path)? != contents {
+                return Err(format!("{path}: not {:?}", String::from_utf8_lossy(&contents)));
+            }
+        }
     }
     let mut listings = Vec::new();
     for name in file_names()? {
@@ -169,7 +180,14 @@ fn made(folder: &Folder, program: &Program) -> Result<Files, String> {
     if input.len() > program.rooms.input || output.len() > program.rooms.output {
         return Err(format!("{name}: no room for an input of {} bytes or its {} of output", input.len(), output.len()));
     }
-    Ok(vec![(format!("crates/{name}/stdin"), input), (format!("crates/{name}/stdout"), output)])
+    let mut files = vec![(format!("crates/{name}/stdin"), input), (format!("crates/{name}/stdout"), output)];
+    files.extend(arguments(program));
+    Ok(files)
+}
+
+/// The file of a program's argument, if it has one.
+fn arguments(program: &Program) -> Option<(String, Vec<u8>)> {
+    program.argument.map(|argument| (format!("crates/{}/args", program.name), format!("{argument}\n").into_bytes()))
 }
 
 /// The exercise files of the program `vectors`, and their listings.

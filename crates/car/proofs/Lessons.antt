@@ -14,6 +14,7 @@ use Rattle.answer.specs.AnswerWord.{readOf}
 use Rattle.answer.specs.AnswerWordLaws.{written-read}
 use Rattle.car.specs.declared.Car.{Car}
 use Rattle.car.specs.declared.drive.Driven.{Driven}
+use Rattle.car.specs.declared.lesson.Ran.{Ran}
 use Rattle.car.specs.declared.lesson.Taught.{Taught}
 use Rattle.car.specs.Drive.{stepOf, driveOf}
 use Rattle.car.specs.Good.{goodOf}
@@ -22,6 +23,8 @@ use Rattle.car.specs.Lesson.{answering, answerOf, speedOf, driven, eachO
 use Rattle.car.specs.LessonLaws.{refusal-le, answering-fits}
 use Rattle.car.specs.LessonShape.{overOf}
 use Rattle.car.specs.LessonShapeLaws.{over-room}
+use Rattle.car.specs.Mark.{searched, ranOf, asTaught, unran, runOf, runAfter}
+use Rattle.car.specs.MarkLaws.{searched-0, searched-few, ran-whole}
 use Rattle.car.specs.StepLaws.{step-good}
 
 -- both buffers have room
@@ -35,23 +38,27 @@ trace-room ws answers speeds h = go (ltb (length answers) (length ws)) (ltb (len
     go false true e f z = absurd (true≢false z)
     go false false e f z = (ltb-false _ _ e, ltb-false _ _ f)
 
--- ---- a lesson
+-- ---- a lesson that stops where a mark is passed
+module _ (halt mark : ℕ) (c : Car) (ws answers : List ℕ) where
+  pub run-18 : goodOf c ≡ false → (unran c 18 ≡ runOf halt mark c ws answers) × (answers ≡ runAfter halt c ws answers)
+  unfolding runOf runAfter
+  run-18 g = (sym (pick-false _ _ _ g), sym (pick-false _ _ _ g))
+
+  pub run-19 : goodOf c ≡ true → length answers < length ws → (unran c 19 ≡ runOf halt mark c ws answers) × (answers ≡ runAfter halt c ws answers)
+  unfolding runOf runAfter
+  run-19 g h = (sym (pick-true _ _ _ g ∙ pick-true _ _ _ (lt-ltb _ _ h)), sym (pick-true _ _ _ g ∙ pick-true _ _ _ (lt-ltb _ _ h)))
+
+  pub run-ran : (t : Ran) (after : List ℕ) → goodOf c ≡ true → length ws ≤ length answers → t ≡ ranOf halt mark c ws
+      → after ≡ overOf answerOf c (searched halt c ws) answers → (t ≡ runOf halt mark c ws answers) × (after ≡ runAfter halt c ws answers)
+  unfolding runOf runAfter
+  run-ran t after g h e f =
+      let few : length (searched halt c ws) ≤ length answers = omega (arith, searched-few halt c ws) in (
+        e ∙ sym (pick-true _ _ _ g ∙ pick-false _ _ _ (le-ltb _ _ h)),
+        f ∙ over-room answerOf c (searched halt c ws) answers few ∙ sym (pick-true _ _ _ g ∙ pick-false _ _ _ (le-ltb _ _ h)),
+      )
+
+-- ---- a lesson with a second buffer
 module _ (c : Car) (ws answers : List ℕ) where
-  pub lesson-18 : goodOf c ≡ false → (untaught c 18 ≡ lessonOf c ws answers) × (answers ≡ answersAfter c ws answers)
-  unfolding lessonOf eachAfter
-  lesson-18 g = (sym (pick-false _ _ _ g), sym (pick-false _ _ _ g))
-
-  pub lesson-19 : goodOf c ≡ true → length answers < length ws → (untaught c 19 ≡ lessonOf c ws answers) × (answers ≡ answersAfter c ws answers)
-  unfolding lessonOf eachAfter
-  lesson-19 g h = (sym (pick-true _ _ _ g ∙ pick-true _ _ _ (lt-ltb _ _ h)), sym (pick-true _ _ _ g ∙ pick-true _ _ _ (lt-ltb _ _ h)))
-
-  pub lesson-ran : (t : Taught) (after : List ℕ) → goodOf c ≡ true → length ws ≤ length answers → t ≡ taughtOf c ws → after ≡ overOf answerOf c ws answers
-      → (t ≡ lessonOf c ws answers) × (after ≡ answersAfter c ws answers)
-  unfolding lessonOf eachAfter
-  lesson-ran t after g h e f =
-      (e ∙ sym (pick-true _ _ _ g ∙ pick-false _ _ _ (le-ltb _ _ h)), f ∙ over-room answerOf c ws answers h ∙ sym (pick-true _ _ _ g ∙ pick-false _ _ _ (le-ltb _ _ h)))
-
-  -- with a second buffer
   module _ (speeds : List ℕ) where
     abbrev short : Bool
     short = traceShort ws answers speeds
@@ -67,14 +74,14 @@ module _ (c : Car) (ws answers : List ℕ) where
     trace-19 g h =
         (sym (pick-true _ _ _ g ∙ pick-true _ _ _ h), sym (pick-true _ _ _ g ∙ pick-true _ _ _ h), sym (pick-true _ _ _ g ∙ pick-true _ _ _ h))
 
-    pub trace-ran : (t : Taught) (after spoken : List ℕ) → goodOf c ≡ true → short ≡ false → length ws ≤ length answers → length ws ≤ length speeds
-        → t ≡ taughtOf c ws → after ≡ overOf answerOf c ws answers → spoken ≡ overOf speedOf c ws speeds
-        → (t ≡ traceOf c ws answers speeds) × (after ≡ traceAfter answerOf c ws short answers) × (spoken ≡ traceAfter speedOf c ws short speeds)
+    pub trace-ran : (mark : ℕ) (t : Ran) (after spoken : List ℕ) → goodOf c ≡ true → short ≡ false → length ws ≤ length answers → length ws ≤ length speeds
+        → t ≡ ranOf 0 mark c ws → after ≡ overOf answerOf c (searched 0 c ws) answers → spoken ≡ overOf speedOf c (searched 0 c ws) speeds
+        → (asTaught t ≡ traceOf c ws answers speeds) × (after ≡ traceAfter answerOf c ws short answers) × (spoken ≡ traceAfter speedOf c ws short speeds)
     unfolding traceOf traceAfter
-    trace-ran t after spoken g s h k e f q = (
-      e ∙ sym (pick-true _ _ _ g ∙ pick-false _ _ _ s),
-      f ∙ over-room answerOf c ws answers h ∙ sym (pick-true _ _ _ g ∙ pick-false _ _ _ s),
-      q ∙ over-room speedOf c ws speeds k ∙ sym (pick-true _ _ _ g ∙ pick-false _ _ _ s),
+    trace-ran mark t after spoken g s h k e f q = (
+      ap asTaught e ∙ ran-whole c ws mark ∙ sym (pick-true _ _ _ g ∙ pick-false _ _ _ s),
+      f ∙ rw (searched-0 c ws) (over-room answerOf c ws answers h) ∙ sym (pick-true _ _ _ g ∙ pick-false _ _ _ s),
+      q ∙ rw (searched-0 c ws) (over-room speedOf c ws speeds k) ∙ sym (pick-true _ _ _ g ∙ pick-false _ _ _ s),
     )
 
 -- ---- one word is a lesson of one word, whose answer word holds the refusal

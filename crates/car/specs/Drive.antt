@@ -1,5 +1,6 @@
 -- One event word driven: document 01, "From file, pupil, radar, clock and caller" and "Rules of each event".
 -- Assumes nothing.
+use mathlib.Core.Bool.{Bool, true, false, _&&_}
 use Prim.Native.Nat.{ℕ}
 use lib.Dec.{eqb}
 use Rattle.kit.specs.Answer.{Answer, gives, refused}
@@ -58,3 +59,21 @@ stepOf c w = chosen c (checkOf c w) (nextOf c w)
 -- 18, "a car handed in that no accepted record gives", "looked at before all others"
 unfoldable pub driveOf : Car → ℕ → Driven
 driveOf c w = pick (goodOf c) (stepOf c w) (record { car = c; refusal = 18 })
+
+-- ---- a word is accepted; it is accepted and its event is of a sort, as a tick
+abbrev pub accepted : Car → ℕ → Bool
+accepted c w = eqb (checkOf c w) 0
+
+unfoldable pub reads : (Event → Bool) → Answer Event → Bool
+reads f (gives e) = f e
+reads f (refused n) = false
+
+abbrev pub acceptedAs : (Event → Bool) → Car → ℕ → Bool
+acceptedAs f c w = accepted c w && reads f (readOf w)
+
+unfoldable pub isTick : Event → Bool
+isTick (event.Input i) = false
+isTick (event.Tick ready) = true
+
+abbrev pub acceptedTick : Car → ℕ → Bool
+acceptedTick c w = acceptedAs isTick c w

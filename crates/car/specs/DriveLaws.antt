@@ -1,13 +1,13 @@
 -- Laws of one word driven, as the code goes through it: a tick's word, or an input's.
 -- Assumes nothing.
-use mathlib.Core.Bool.{true, false}
+use mathlib.Core.Bool.{Bool, true, false}
 use mathlib.Core.Path.{_≡_, ap, _∙_}
 use Prim.Native.Nat.{ℕ}
 use native.Mathlib.Omega.{arith}
 use borrow.Author.Tests.{eq-eqb, ne-eqb}
 use lib.Dec.{eqb, leb}
 use Rattle.kit.specs.Answer.{gives, refused}
-use Rattle.kit.specs.Pick.{pick-true, pick-false, pick-case}
+use Rattle.kit.specs.Pick.{pick-true, pick-false, pick-case, and-next}
 use Rattle.event.specs.declared.Input.{Input}
 use Rattle.event.specs.declared.Event.{Event}
 use Rattle.event.specs.declared.Event.the-variants as event
@@ -15,7 +15,7 @@ use Rattle.event.specs.Words.{kindOf, bodyOf, readyOf, inputOf, inputEvent, tic
 use Rattle.event.specs.WordLaws.{refused-number, read-tick, read-input}
 use Rattle.car.specs.declared.Car.{Car}
 use Rattle.car.specs.Checks.{inputCheck, eventCheck}
-use Rattle.car.specs.Drive.{inputNext, eventNext, readingCheck, checkOf, readingNext, nextOf, chosen, stepOf}
+use Rattle.car.specs.Drive.{inputNext, eventNext, readingCheck, checkOf, readingNext, nextOf, chosen, stepOf, accepted, reads, acceptedAs}
 use Rattle.car.specs.LessonShape.{tickRefusal}
 use Rattle.car.specs.Rules.{testDue, ticked}
 
@@ -27,6 +27,11 @@ read-chosen c w e h = rw h
 pub step-unread : (c : Car) (w n : ℕ) → readOf w ≡ refused n → stepOf c w ≡ record { car = c; refusal = n }
 unfolding stepOf checkOf nextOf readingCheck readingNext chosen
 step-unread c w n h = let r = refused-number w n h in rw h (pick-false _ _ _ (ne-eqb n 0 (omega arith)))
+
+-- an accepted word is of a sort exactly when its event is
+pub accepted-as : (f : Event → Bool) (c : Car) (w : ℕ) (e : Event) → readOf w ≡ gives e → accepted c w ≡ true → acceptedAs f c w ≡ f e
+unfolding reads
+accepted-as f c w e r a = and-next _ _ a ∙ rw r
 
 chosen-refused : (c d : Car) (n : ℕ) → (n ≡ 0 → ⊥) → chosen c n d ≡ record { car = c; refusal = n }
 unfolding chosen
@@ -60,6 +65,14 @@ module _ (c : Car) (w : ℕ) (t : eqb (kindOf w) 10 ≡ true) where
       pick-case (λ (n : ℕ). n ≡ 0 → stepOf c w ≡ record { car = ticked c (readyOf (bodyOf w)); refusal = 0 }) (leb 2 (bodyOf w)) _ _
       (λ h z. absurd (omega arith))
       (λ h z. read-chosen c w _ (tick-read h) ∙ chosen-taken c _ _ z)
+
+  -- such a word is read as a tick, and no check holds
+  pub tick-read-taken : tickRefusal c w (testDue c) ≡ 0 → (readOf w ≡ gives (event.Tick (readyOf (bodyOf w)))) × (checkOf c w ≡ 0)
+  unfolding tickRefusal eventCheck checkOf readingCheck
+  tick-read-taken =
+      pick-case (λ (n : ℕ). n ≡ 0 → (readOf w ≡ gives (event.Tick (readyOf (bodyOf w)))) × (checkOf c w ≡ 0)) (leb 2 (bodyOf w)) _ _
+      (λ h z. absurd (omega arith))
+      (λ h z. (tick-read h, ap (readingCheck c) (tick-read h) ∙ z))
 
 -- ---- an input's word
 module _ (c : Car) (w : ℕ) (t : eqb (kindOf w) 10 ≡ false) where

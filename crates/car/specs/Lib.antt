@@ -8,6 +8,7 @@ pub mod Checks
 pub mod Rules
 pub mod Drive
 pub mod Lesson
+pub mod Mark
 pub mod GoodLaws
 pub mod DistanceShape
 pub mod AccelerationLaws
@@ -18,6 +19,7 @@ pub mod LessonLaws
 pub mod LessonShape
 pub mod LessonShapeLaws
 pub mod DriveLaws
+pub mod MarkLaws
 pub mod FreshLaws
 pub mod AnswerLaws
 pub mod KeptLaws

@@ -146,10 +146,11 @@ radarTested r ready now =
 unfoldable pub radarAfter : Car → Bool → RangeRadar
 radarAfter c ready = pick (testDue c) (radarTested (c .radar) ready (c .now + 1)) (c .radar)
 
--- D: "with L out and h = now − T ≥ 2, up5 ..", now the new one; else D stays
+-- D: "with L out and h = now − T ≥ 2", now the new one
 abbrev pub holdApplies : Car → ℕ → Bool
 holdApplies c h = not (eqb (c .levers .updown) 0) && leb 2 h
 
+-- "up5 ..": the hold's formula; else D stays
 unfoldable pub holdDesired : Car → ℕ → ℕ
 holdDesired c h =
     pick (holdApplies c h)

@@ -46,6 +46,14 @@ open-kept head more h =
     let m : ltb (length head) 4 ≡ false = le-ltb _ _ h in
     rw (l, m, first-kept head more h)
 
+-- of a file whose first four bytes, or all where it has fewer, start no car
+pub unopened : (head more : List ℕ) (n : ℕ) → (length head < 4 → more ≡ []) → openOf head ≡ refused n → openOf (head ++ more) ≡ refused n
+unopened head more n all e = go (ltb (length head) 4) refl ∙ e
+  where
+    go : (t : Bool) → ltb (length head) 4 ≡ t → openOf (head ++ more) ≡ openOf head
+    go true t = rw (all (ltb-true (length head) 4 t), append-nil)
+    go false t = open-kept head more (ltb-false (length head) 4 t)
+
 -- ---- one turn
 -- all the words of few enough bytes
 turn-all : (c : Car) (bs : List ℕ) → goodOf c ≡ true → length bs ≤ 4099 → turnOf c bs ≡ drivenTurn c (wordsOf bs)
@@ -91,14 +99,7 @@ pieces-clean head c ps four e s = (rw (starts, all .0, take-at head (whole ps) 4
 -- its first four bytes, or all where it has fewer, start none: the clean file is empty, and what is told is their refusal
 pub unopened-clean : (head more : List ℕ) (n : ℕ) → (length head < 4 → more ≡ []) → openOf head ≡ refused n → (cleanOf (head ++ more) ≡ []) × (cleanRefusal (head ++ more) ≡ n)
 unfolding cleanOf cleanFrom cleanRefusal refusalFrom
-unopened-clean head more n all e = (rw still, rw still)
-  where
-    go : (t : Bool) → ltb (length head) 4 ≡ t → openOf (head ++ more) ≡ openOf head
-    go true t = rw (all (ltb-true (length head) 4 t), append-nil)
-    go false t = open-kept head more (ltb-false (length head) 4 t)
-
-    still : openOf (head ++ more) ≡ refused n
-    still = go (ltb (length head) 4) refl ∙ e
+unopened-clean head more n all e = let still = unopened head more n all e in (rw still, rw still)
 
 -- ---- what a turn puts lies within the slice, which keeps its length over a call
 pub end-within : (out after : List ℕ) (t : Turn) {r : Turned} → r ≡ answered t → after ≡ placed out 0 (t .bytes) → length after ≡ length out → r .end ≤ length after

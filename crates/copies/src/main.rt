@@ -24,9 +24,7 @@ struct Place {
 }
 
 fn copy_lines(out: &mut [u8], at: usize, refusal: u32, written: usize, buffer: &[u32]) -> usize {
-    let first = tester::number(out, at, refusal);
-    let second = tester::count(out, first, written);
-    let end = tester::end_line(out, second);
+    let end = tester::count_line(out, at, refusal, written);
     tester::words_line(out, end, buffer)
 }
 

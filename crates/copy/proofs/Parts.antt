@@ -9,9 +9,10 @@ use native.Mathlib.Numerals.{add-one}
 use native.Mathlib.Omega.{arith}
 use borrow.Author.Tests.{lt-ltb, le-ltb, leb-true, leb-false, le-leb, lt-leb, eq-eqb, ne-eqb}
 use lib.Dec.{leb}
-use lib.ListN.{length, take, drop, getD, set, length-append, length-drop, take-append-drop}
-use lib.Seq.{length-take-le, take-suc, take-all, drop-drop, drop-length}
+use lib.ListN.{length, take, drop, getD, set, length-append, length-drop}
+use lib.Seq.{length-take-le, take-suc, take-all, drop-length}
 use Rattle.kit.specs.Answer.{gives}
+use Rattle.kit.specs.Parts.{part-length, part-split}
 use Rattle.kit.specs.Pick.{pick-true, pick-false}
 use Rattle.kit.specs.Placed.{placed, placed-nothing, placed-length, placed-more, placed-one, placed-first}
 use Rattle.answer.specs.declared.Answer.{Answer}
@@ -23,7 +24,7 @@ use Rattle.car.specs.LessonLaws.{driven-good, each-length}
 use Rattle.record.specs.declared.Written.{Written}
 use Rattle.record.specs.Layout.{packed, unpacked}
 use Rattle.record.specs.Record.{readOf, writeOf}
-use Rattle.record.specs.RecordLaws.{packed-read, read-packed, read-accepted, written-yes, written-no}
+use Rattle.record.specs.RecordLaws.{packed-read, written-no, written-record}
 use Rattle.record.specs.RecordLesson.{LessonLeft, lessonLeft}
 use Rattle.history.specs.History.{acceptedWords}
 use Rattle.history.specs.HistoryLaws.{driven-append}
@@ -38,13 +39,11 @@ module _ (ws : List ℕ) (c : Car) (at end : ℕ) (good : goodOf c ≡ true) (be
   abbrev pub part : List ℕ
   part = take (end - at) (drop at ws)
 
-  part-length : length part ≡ end - at
-  part-length = length-take-le (end - at) (drop at ws) (omega (arith, length-drop at ws))
+  full : length part ≡ end - at
+  full = part-length ws at end (omega arith) within
 
   split : drop at ws ≡ part ++ drop end ws
-  split =
-      let past : at + (end - at) ≡ end = omega arith in
-      sym (take-append-drop (end - at) (drop at ws)) ∙ ap (λ (rest : List ℕ). part ++ rest) (drop-drop (end - at) at ws ∙ ap (λ n. drop n ws) past)
+  split = part-split ws at end (omega arith) within
 
   accepted-on : acceptedWords c (drop at ws) ≡ acceptedWords c part ++ acceptedWords (driven c part) (drop end ws)
   accepted-on = ap (acceptedWords c) split ∙ accepted-append c part (drop end ws)
@@ -57,7 +56,7 @@ module _ (ws : List ℕ) (c : Car) (at end : ℕ) (good : goodOf c ≡ true) (be
 
   module _ (answers₀ : List ℕ) (room : length answers₀ ≡ 1024) where
     fits : length part ≤ length answers₀
-    fits = omega (arith, part-length)
+    fits = omega (arith, full)
 
     ran : lessonOf c part answers₀ ≡ taughtOf c part
     unfolding lessonOf
@@ -182,7 +181,7 @@ module _ (first : Car) (ws copy₀ : List ℕ) (room : length (acceptedWords fir
     pub put-room : (l .refused ≡ 0 → sifted words (l .answers) ≡ words) × (length words ≤ length (l .answers)) × (count + length (sifted words (l .answers)) ≤ length copy)
     put-room =
         let r = refused-left ws (g .car) at end (g .good) below within few answers (g .answers-room) rec (g .is-record) l e in
-        (λ z. accepted-part ∙ accepted-whole (g .car) words (sym r ∙ z), omega (arith, answers-full, part-length ws (g .car) at end (g .good) below within few), rw accepted-part found-room)
+        (λ z. accepted-part ∙ accepted-whole (g .car) words (sym r ∙ z), omega (arith, answers-full, full ws (g .car) at end (g .good) below within few), rw accepted-part found-room)
 
     pub writing-again : {copy′ : List ℕ} {count′ : ℕ} → count′ ≡ count + length (sifted words (l .answers)) → copy′ ≡ placed copy count (sifted words (l .answers))
         → Writing first ws copy₀ (l .answers) (l .words) copy′ count′ end
@@ -215,11 +214,6 @@ module _ (first : Car) (ws copy₀ : List ℕ) (room : length (acceptedWords fir
     where
       none : drop at ws ≡ []
       none = let e : at ≡ length ws = omega (arith, g .within) in rw e (drop-length ws)
-
--- a record has twelve words
-pub twelve : (c : Car) {rec : List ℕ} → rec ≡ packed c → length rec ≡ 12
-unfolding packed
-twelve c e = ap length e
 
 -- ---- one word, by its answer
 module _ (copy : List ℕ) (at word answer : ℕ) (r : Answer) (e : r ≡ answerword.readOf answer) where
@@ -294,9 +288,6 @@ module _ (ws copy₀ : List ℕ) (at : ℕ) (room : at + length ws ≤ length co
   all-ends {i = i} h e = (refl, e ∙ ap (placed copy₀ at) (take-all i ws h))
 
 -- ---- the ways out of a copy from a car: w is what writing its record gives
-pub own-record : (c : Car) → goodOf c ≡ true → unpacked (packed c) ≡ c
-own-record c g = sym (read-accepted (packed c) c (packed-read c g) .1)
-
 module _ (c : Car) (ws copy₀ : List ℕ) (w : Written) (is : w ≡ writeOf c) where
   pub no-record : (w .refusal ≡ 0 → ⊥) → (uncopiedPart c (w .refusal) ≡ partOf c ws copy₀) × (copy₀ ≡ partBuffer c ws copy₀)
   unfolding partOf partBuffer
@@ -305,20 +296,20 @@ module _ (c : Car) (ws copy₀ : List ℕ) (w : Written) (is : w ≡ writeOf c) 
       (rw (is, f .0) (sym (pick-false _ _ _ (f .1))), sym (pick-false _ _ _ (f .1)))
 
   module _ (z : w .refusal ≡ 0) where
-    its : (w .words ≡ packed c) × (goodOf c ≡ true)
-    its = rw is (written-yes c (rw is at z))
-
-    pub accepted-record : readOf (w .words) ≡ gives (unpacked (w .words))
-    accepted-record = rw (its .0) (packed-read c (its .1) ∙ ap gives (sym (own-record c (its .1))))
+    good : goodOf c ≡ true
+    good = written-record c w is z .good
 
     its-car : unpacked (w .words) ≡ c
-    its-car = rw (its .0) (own-record c (its .1))
+    its-car = written-record c w is z .car
+
+    pub accepted-record : readOf (w .words) ≡ gives (unpacked (w .words))
+    accepted-record = written-record c w is z .accepted
 
     pub no-fit : false ≡ leb (length (acceptedWords (unpacked (w .words)) ws)) (length copy₀) → (uncopiedPart c 19 ≡ partOf c ws copy₀) × (copy₀ ≡ partBuffer c ws copy₀)
     unfolding partOf partBuffer tooShort
     no-fit h =
         let s = lt-ltb (length copy₀) (length (acceptedWords c ws)) (leb-false _ _ (sym (rw its-car at h))) in
-        (sym (pick-true _ _ _ (its .1) ∙ pick-true _ _ _ s), sym (pick-true _ _ _ (its .1) ∙ pick-true _ _ _ s))
+        (sym (pick-true _ _ _ good ∙ pick-true _ _ _ s), sym (pick-true _ _ _ good ∙ pick-true _ _ _ s))
 
     module _ (h : true ≡ leb (length (acceptedWords (unpacked (w .words)) ws)) (length copy₀)) where
       pub does-fit : length (acceptedWords (unpacked (w .words)) ws) ≤ length copy₀
@@ -331,4 +322,4 @@ module _ (c : Car) (ws copy₀ : List ℕ) (w : Written) (is : w ≡ writeOf c) 
       copied p e f =
           let d = rw its-car at e in
           let s = le-ltb (length copy₀) (length (acceptedWords c ws)) (rw its-car at does-fit) in
-          (f ∙ rw (d .1, packed-read (driven c ws) (driven-good c ws (its .1)), d .0) (sym (pick-true _ _ _ (its .1) ∙ pick-false _ _ _ s)), d .2 ∙ sym (pick-true _ _ _ (its .1) ∙ pick-false _ _ _ s))
+          (f ∙ rw (d .1, packed-read (driven c ws) (driven-good c ws good), d .0) (sym (pick-true _ _ _ good ∙ pick-false _ _ _ s)), d .2 ∙ sym (pick-true _ _ _ good ∙ pick-false _ _ _ s))

@@ -601,6 +601,90 @@ static void copies(void)
     EQUAL(written, 0);
 }
 
+/* A mark of a lesson: its refusal, and the two numbers between numbers that stay; nothing else is written. */
+static void mark_is(int line, const uint32_t *car, size_t length, const uint32_t *lesson, size_t count, uint32_t mark, uint32_t refusal,
+                    size_t event, size_t seconds)
+{
+    struct area record, given;
+    size_t got[5] = {77, 77, 77, 77, 77};
+    equal(line, "cruise_mark", cruise_mark(lay(&record, car, length), length, lay(&given, lesson, count), count, mark, &got[1], &got[3]), refusal);
+    equal(line, "event", (long long)got[1], (long long)event);
+    equal(line, "seconds", (long long)got[3], (long long)seconds);
+    for (size_t i = 0; i < 5; i += 2) {
+        equal(line, "a number beside them", (long long)got[i], 77);
+    }
+    left(line, "the record", &record, car, length);
+    left(line, "the lesson", &given, lesson, count);
+}
+
+/* The document's listing, v 108 after event 4 and 216 after event 10; the same in two parts; and lessons of the outside vectors. */
+static void marks(void)
+{
+    static const struct {
+        uint32_t mark, refusal;
+        size_t event, seconds, count;
+        uint32_t car[WORDS], lesson[12];
+    } outside[] = {
+        {4999u, 0, 4, 9, 12,
+         {0xB0003472, 0xB1000000, 0xB2001315, 0xB300080E, 0xB400000A, 0xB5015037,
+          0xB600001C, 0xB700C000, 0xB8000000, 0xB9000014, 0xBA01503B, 0xBB014FE6},
+         {0x40000000, 0x500000E1, 0xA0000001, 0xA0000001, 0xA0000001, 0xA0000001, 0xA0000001, 0xA0000001, 0xA0000001, 0xA0000001, 0xA0000001, 0xA0000001}},
+        {1192u, 18, 0, 0, 1,
+         {0xB0002496, 0xB1000000, 0xB2001389, 0xB30004B0, 0xB42DACA9, 0xB5000000,
+          0xB6000000, 0xB7000000, 0xB8000000, 0xB900001E, 0xBA00E7D7, 0xBB00E63C},
+         {0x20000004}},
+        {201u, 0, 9, 1, 9,
+         {0xB0002516, 0xB1000001, 0xB20000C8, 0xB30000CE, 0xB4000578, 0xB5000000,
+          0xB6000000, 0xB7000C77, 0xB800000C, 0xB9000019, 0xBA000000, 0xBB000000},
+         {0x40000000, 0xA0000001, 0xA0000001, 0xA0000001, 0xA0000001, 0xA0000001, 0xA0000001, 0x500000E1, 0xA0000001}},
+        {108u, 0, 5, 4, 9,
+         {0xB0000002, 0xB1000000, 0xB2000000, 0xB300137F, 0xB4000000, 0xB5000000,
+          0xB6000000, 0xB70000FF, 0xB8000000, 0xB9000014, 0xBA01517C, 0xBB000000},
+         {0x10000001, 0x10000006, 0x40000000, 0x500000E1, 0xA0000001, 0xA0000001, 0xA0000001, 0xA0000001, 0xA0000001}},
+        {324u, 0, 0, 1, 6,
+         {0xB0003C96, 0xB1000000, 0xB20001B0, 0xB3001354, 0xB400000A, 0xB5015164,
+          0xB6000001, 0xB7135311, 0xB8001353, 0xB9000019, 0xBA01517F, 0xBB014F29},
+         {0x500000E1, 0xA0000001, 0xA0000001, 0xA0000001, 0xA0000001, 0xA0000001}},
+        {1890u, 0, 0, 1, 3,
+         {0xB0003116, 0xB1000100, 0xB20007CF, 0xB300079C, 0xB42A0FB8, 0xB5000000,
+          0xB6000000, 0xB7135601, 0xB8001356, 0xB900001E, 0xBA015176, 0xBB015082},
+         {0x500000E1, 0xA0000001, 0xA0000001}},
+        {0u, 0, 0, 10, 11,
+         {0xB0002216, 0xB10000E0, 0xB2000004, 0xB3000002, 0xB4000320, 0xB5000000,
+          0xB6000000, 0xB7000100, 0xB8000001, 0xB9000014, 0xBA000000, 0xBB000000},
+         {0x500000E1, 0xA0000001, 0xA0000001, 0xA0000001, 0xA0000001, 0xA0000001, 0xA0000001, 0xA0000001, 0xA0000001, 0xA0000001, 0xA0000001}},
+    };
+    static const struct {
+        uint32_t mark;
+        size_t event, seconds;
+    } listed_marks[] = {{0, 0, 2}, {1, 4, 2}, {108, 4, 2}, {109, 10, 1}, {216, 10, 1}, {217, 0, 0}, {5000, 0, 0}, {5001, 0, 0}, {0xFFFFFFFF, 0, 0}};
+    struct area record, answers;
+    size_t accepted, refused, event = 77, seconds = 77;
+    for (size_t i = 0; i < sizeof listed_marks / sizeof listed_marks[0]; i++) {
+        mark_is(__LINE__, fresh, WORDS, listing, 10, listed_marks[i].mark, CRUISE_ACCEPTED, listed_marks[i].event, listed_marks[i].seconds);
+    }
+    EQUAL(cruise_lesson(lay(&record, fresh, WORDS), WORDS, listing, 6, lay(&answers, NULL, 0), 6, &accepted, &refused), CRUISE_ACCEPTED);
+    mark_is(__LINE__, fresh, WORDS, listing, 6, 200, CRUISE_ACCEPTED, 0, 0);
+    mark_is(__LINE__, record.words + ROUND, WORDS, listing + 6, 4, 200, CRUISE_ACCEPTED, 4, 1);
+    mark_is(__LINE__, fresh, WORDS, listing, 10, 200, CRUISE_ACCEPTED, 10, 1);
+    for (size_t i = 0; i < sizeof outside / sizeof outside[0]; i++) {
+        mark_is(__LINE__, outside[i].car, WORDS, outside[i].lesson, outside[i].count, outside[i].mark, outside[i].refusal, outside[i].event,
+                outside[i].seconds);
+    }
+
+    /* no words, and records that are none */
+    mark_is(__LINE__, fresh, WORDS, listing, 0, 1, CRUISE_ACCEPTED, 0, 0);
+    mark_is(__LINE__, fresh, WORDS - 1, listing, 10, 108, CRUISE_NOT_ACCEPTED, 0, 0);
+    mark_is(__LINE__, listing, 10, listing, 10, 108, CRUISE_NOT_ACCEPTED, 0, 0);
+    EQUAL(cruise_mark(fresh, WORDS, NULL, 0, 1, &event, &seconds), CRUISE_ACCEPTED);
+    EQUAL(event, 0);
+    EQUAL(seconds, 0);
+    event = seconds = 77;
+    EQUAL(cruise_mark(NULL, 0, listing, 10, 108, &event, &seconds), CRUISE_NOT_ACCEPTED);
+    EQUAL(event, 0);
+    EQUAL(seconds, 0);
+}
+
 /* Each refusal of a word: a fresh car of mode 1, the words that lead to it, which are accepted, and the word refused. */
 static void refusals(void)
 {
@@ -827,6 +911,7 @@ int main(void)
     pedals();
     lessons();
     copies();
+    marks();
     refusals();
     figures();
     alikes();

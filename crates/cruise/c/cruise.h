@@ -24,7 +24,7 @@ extern "C" {
 
 /* The version of this header and of the archive beside it: it rises with each change of what a function gives. */
 #define CRUISE_VERSION_MAJOR 0
-#define CRUISE_VERSION_MINOR 4
+#define CRUISE_VERSION_MINOR 5
 #define CRUISE_VERSION (CRUISE_VERSION_MAJOR << 16 | CRUISE_VERSION_MINOR << 8)
 
 /* How many words a record has. */
@@ -172,6 +172,15 @@ uint32_t cruise_lesson(uint32_t *record, size_t length, const uint32_t *words, s
    17 a word that is no settings word, or with settings outside their values. 19 buffer shorter than the accepted words. Either way the
    buffer is kept whole and the number is 0. A buffer as long as the words always has room, and costs one pass over them instead of two. */
 uint32_t cruise_copy(uint32_t settings, const uint32_t *words, size_t count, uint32_t *copy, size_t room, size_t *written);
+
+/* The event of a lesson that passed a mark, and the seconds at or above it. The event is the first at which v went from below the mark to the mark or above,
+   counted from 1, refused ones too; 0 for never. The seconds are the accepted ticks after which v is at or above the mark. A mark of 0 is never passed, and
+   counts each accepted tick; one above 5000: never and 0. The record is only read. From version 0.5 on.
+   A lesson that comes in parts: hand over a part, then drive it by cruise_lesson, which leaves the record for the next one. The seconds add up, and the first
+   part with an event gives the lesson's, moved by the words of the parts before it.
+   18 a record not of 12 words or not accepted: 0 and 0. */
+uint32_t cruise_mark(const uint32_t *record, size_t length, const uint32_t *words, size_t count, uint32_t mark, size_t *event,
+                     size_t *seconds);
 
 /* Whether a record is accepted.
    18 a record not of 12 words or not accepted. */

@@ -15,6 +15,7 @@ use Rattle.car.specs.Figures.{figuresOf}
 use Rattle.record.specs.Layout.{packed}
 use Rattle.record.specs.Record.{savedRefusal, savedBuffer}
 use Rattle.alike.specs.Alike.{alikeOf}
+use Rattle.passing.specs.Passing.{eventNumber, markOf}
 
 -- the refusal, and the words of the record's buffer afterwards
 pub record Left : Type 0 where
@@ -77,3 +78,18 @@ unfoldable pub alikeAnswer : Answer Car → Answer Car → ℕ
 alikeAnswer (gives a) (gives b) = bitOf (alikeOf a b)
 alikeAnswer (gives a) (refused n) = 0
 alikeAnswer (refused n) b = 0
+
+-- cruise_mark: the number of the event that passed the mark, 0 for never, and the seconds at or above it; zeros where no car was read
+pub record MarkLeft : Type 0 where
+  pub refusal : ℕ
+  pub event : ℕ
+  pub seconds : ℕ
+
+unfoldable pub markLeft : ℕ → Answer Car → List ℕ → MarkLeft
+markLeft mark (gives c) words =
+    record {
+      refusal = markOf mark c words .refusal;
+      event = eventNumber (markOf mark c words .passed);
+      seconds = markOf mark c words .seconds;
+    }
+markLeft mark (refused n) words = record { refusal = n; event = 0; seconds = 0 }

@@ -9,11 +9,13 @@ ghost use Rattle.record.specs.Record.{readingAnswer, readOf};
 ghost use Rattle.record.specs.RecordLesson.{LessonLeft, lessonLeft};
 ghost use Rattle.copy.specs.declared.Copied.{Copied};
 ghost use Rattle.copy.specs.Copy.{startedCopy, startedBuffer};
-ghost use Rattle.cruise.specs.Cruise.{Left, freshLeft, driveLeft, figuresRead, Dials, dialsOf, alikeRefusal, alikeAnswer};
+ghost use Rattle.passing.specs.Passing.{eventNumber};
+ghost use Rattle.cruise.specs.Cruise.{Left, freshLeft, driveLeft, figuresRead, Dials, dialsOf, alikeRefusal, alikeAnswer, MarkLeft, markLeft};
 use car::Car;
 use car::Fresh;
 use car::figures::Figures;
 use motion::Acceleration;
+use passing::Passed;
 use record::Reading;
 
 #[no_mangle]
@@ -172,6 +174,42 @@ pub extern "C" fn cruise_copy(
         }
         Fresh::Refused(n) => {
             *written = 0;
+            n
+        }
+    }
+}
+
+// The number of an event, 0 for never.
+fn event_number(passed: Passed) -> usize
+    ensures { λ r. ⌜ r ≡ eventNumber passed ⌝ }
+{
+    match passed {
+        Passed::At(number) => number,
+        Passed::Never => 0,
+    }
+}
+
+#[no_mangle]
+pub extern "C" fn cruise_mark(
+    record: &[u32],
+    words: &[u32],
+    mark: u32,
+    event: &mut usize,
+    seconds: &mut usize,
+) -> u32
+    ensures { λ r. ⌜ _≡_ {A = MarkLeft} (record { refusal = r; event = now (event .exit); seconds = now (seconds .exit) }) (markLeft mark (readOf (now («record» .entry))) (now (words .entry))) ⌝ }
+{
+    match record::read_from(record) {
+        Reading::Loaded(car) => {
+            let marked = passing::of_lesson(car, words, mark);
+            let passed = marked.passed;
+            *event = event_number(passed);
+            *seconds = marked.seconds;
+            marked.refusal
+        }
+        Reading::Refused(n) => {
+            *event = 0;
+            *seconds = 0;
             n
         }
     }

@@ -11,11 +11,11 @@ use lib.ListN.{length}
 use Rattle.kit.specs.Pick.{pick, pick-true, pick-false}
 use Rattle.car.specs.declared.Car.{Car}
 use Rattle.car.specs.declared.drive.Driven.{Driven}
-use Rattle.car.specs.Drive.{checkOf, stepOf}
+use Rattle.car.specs.Drive.{checkOf, stepOf, accepted}
 use Rattle.car.specs.Lesson.{driven, accepts, refuses, acceptedOf, refusedOf}
 use Rattle.car.specs.LessonLaws.{counts-all}
 use Rattle.car.specs.StepLaws.{Stepping, went, stayed, stepping, step-refusal}
-use Rattle.history.specs.History.{accepted, acceptedWords}
+use Rattle.history.specs.History.{acceptedWords}
 
 -- a word is accepted and counts as one accepted, or is refused, counts as one refused and leaves the car
 pub by-word : {P : Type 0} (c : Car) (w : ℕ)

@@ -1,31 +1,14 @@
 -- Lists of event words: which are accepted, which of them are ticks or words of the up-down lever, and what (f) remembers.
 -- Assumes nothing.
-use mathlib.Core.Bool.{Bool, false, _&&_}
+use mathlib.Core.Bool.{Bool}
 use mathlib.Core.List.{List, [], _∷_}
 use Prim.Native.Nat.{ℕ, _+_}
-use lib.Dec.{eqb}
-use Rattle.kit.specs.Answer.{Answer, gives, refused}
 use Rattle.kit.specs.Pick.{pick}
-use Rattle.event.specs.declared.Event.{Event}
-use Rattle.event.specs.Words.{readOf}
 use Rattle.car.specs.declared.Car.{Car}
-use Rattle.car.specs.Drive.{checkOf, stepOf}
-use Rattle.history.specs.Neighbours.{isTick, isLever}
+use Rattle.car.specs.Drive.{stepOf, accepted, acceptedAs, acceptedTick}
+use Rattle.history.specs.Neighbours.{isLever}
 
--- a word is accepted; it is accepted and its event is of a sort: a tick, one of the up-down lever
-abbrev pub accepted : Car → ℕ → Bool
-accepted c w = eqb (checkOf c w) 0
-
-unfoldable pub reads : (Event → Bool) → Answer Event → Bool
-reads f (gives e) = f e
-reads f (refused n) = false
-
-abbrev pub acceptedAs : (Event → Bool) → Car → ℕ → Bool
-acceptedAs f c w = accepted c w && reads f (readOf w)
-
-abbrev pub acceptedTick : Car → ℕ → Bool
-acceptedTick c w = acceptedAs isTick c w
-
+-- an accepted word of the up-down lever
 abbrev pub acceptedLever : Car → ℕ → Bool
 acceptedLever c w = acceptedAs isLever c w
 

@@ -7,20 +7,20 @@ use Prim.Native.Nat.{ℕ, _+_, _≤_}
 use native.Mathlib.Omega.{arith}
 use borrow.Author.Tests.{eq-eqb, ne-eqb}
 use Rattle.kit.specs.Answer.{gives}
-use Rattle.kit.specs.Pick.{pick, pick-false, and-left, and-next}
+use Rattle.kit.specs.Pick.{pick, pick-false, and-left}
 use Rattle.event.specs.declared.Event.{Event}
-use Rattle.event.specs.Words.{readOf}
 use Rattle.car.specs.declared.Car.{Car}
 use Rattle.car.specs.declared.Levers.{Levers}
 use Rattle.car.specs.declared.drive.Driven.{Driven}
-use Rattle.car.specs.Drive.{checkOf, stepOf, eventNext}
+use Rattle.car.specs.Drive.{checkOf, stepOf, eventNext, accepted, isTick, acceptedTick}
+use Rattle.car.specs.DriveLaws.{accepted-as}
 use Rattle.car.specs.Good.{goodOf, leverHeld}
 use Rattle.car.specs.GoodLaws.{good}
 use Rattle.car.specs.Lesson.{driven}
 use Rattle.car.specs.StepLaws.{Stepping, went, stayed, stepping, step-good}
-use Rattle.history.specs.Neighbours.{isTick, isLever, Neighbouring, Neighbours}
+use Rattle.history.specs.Neighbours.{isLever, Neighbouring, Neighbours}
 use Rattle.history.specs.NeighbourLaws.{next-neighbours}
-use Rattle.history.specs.History.{accepted, reads, acceptedAs, acceptedTick, acceptedLever, ticksOf, leversOf, Since, sinceWord, since}
+use Rattle.history.specs.History.{acceptedLever, ticksOf, leversOf, Since, sinceWord, since}
 
 no : {A : Type 0} → true ≡ false → A
 no e = absurd (true≢false e)
@@ -36,11 +36,6 @@ pub record Accepted (c : Car) (w : ℕ) (e : Event) : Type 0 where
 pub data Word (c : Car) (w : ℕ) : Type 0 where
   took : (e : Event) → accepted c w ≡ true → Accepted c w e → Word c w
   left : accepted c w ≡ false → stepOf c w .car ≡ c → Word c w
-
--- an accepted word is of a sort exactly when its event is
-pub accepted-as : (f : Event → Bool) (c : Car) (w : ℕ) (e : Event) → readOf w ≡ gives e → accepted c w ≡ true → acceptedAs f c w ≡ f e
-unfolding reads
-accepted-as f c w e r a = and-next _ _ a ∙ rw r
 
 pub word-view : (c : Car) (w : ℕ) → goodOf c ≡ true → Word c w
 word-view c w g = by (stepping c w)

@@ -13,9 +13,9 @@ use Rattle.event.specs.declared.Event.{Event}
 use Rattle.event.specs.declared.Event.the-variants as event
 use Rattle.event.specs.Words.{inputKind}
 use Rattle.car.specs.declared.Car.{Car}
+use Rattle.car.specs.Drive.{acceptedAs}
 use Rattle.car.specs.Lesson.{driven}
 use Rattle.car.specs.Rules.{engages, signActs, holdApplies}
-use Rattle.history.specs.History.{acceptedAs}
 
 -- ---- the words that renew D
 -- "lever": the up-down lever moved out of neutral; forward that engages at D = 0, and none at a D above 0, which it takes as it is kept.

@@ -1,6 +1,6 @@
 -- D is kept until a word renews it or the key is turned (document 02, §4), proved: one lemma for an event, one for a word, then list inductions.
 -- Assumes nothing.
-use mathlib.Core.Bool.{Bool, true, false, _&&_, _||_, not, true≢false}
+use mathlib.Core.Bool.{Bool, true, false, _&&_, _||_, true≢false}
 use mathlib.Core.Path.{_≡_, refl, sym, _∙_}
 use mathlib.Core.List.{List, [], _∷_, _++_}
 use Prim.Native.Nat.{ℕ, _+_, _-_, min}
@@ -17,6 +17,7 @@ use Rattle.desired.specs.Desired.{stepped, longHeld, signDesired}
 use Rattle.car.specs.declared.Car.{Car}
 use Rattle.car.specs.Car.{freshCar, settingsOf, Permitted, ceilingOf, withLevers, withPedals, withLimiter, withCruise, withRadar, withGap}
 use Rattle.car.specs.Drive.{inputNext, eventNext, checkOf, stepOf}
+use Rattle.car.specs.DriveLaws.{accepted-as}
 use Rattle.car.specs.FreshLaws.{permitted-good}
 use Rattle.car.specs.Good.{goodOf}
 use Rattle.car.specs.GoodLaws.{good}
@@ -24,7 +25,7 @@ use Rattle.car.specs.Lesson.{driven}
 use Rattle.car.specs.LessonLaws.{driven-good}
 use Rattle.car.specs.Rules.{keyTurned, leverDesired, upDownMoved, withForeback, engages, startDesired, engaged, forward, cruiseOff, backward, foreBackMoved, brakePressed, gasPressed, buttonPressed, signActs, signAfter, signPassed, readingTaken, holdApplies, holdDesired, tickDesired, ticked}
 use Rattle.car.specs.StepLaws.{Stepping, went, stayed, stepping}
-use Rattle.history.specs.HistoryLaws.{accepted-as, driven-append, driven-at}
+use Rattle.history.specs.HistoryLaws.{driven-append, driven-at}
 use Rattle.history.specs.KeptDesired.{inputRenews, renews, isKey, renewing, acceptedKey, Never, LastWord, renewed, turned, neither, KeptDesired}
 
 no : {A : Type 0} → true ≡ false → A

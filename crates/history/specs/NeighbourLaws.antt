@@ -20,12 +20,12 @@ use Rattle.car.specs.declared.Levers.{Levers}
 use Rattle.car.specs.AccelerationLaws.{change-size}
 use Rattle.car.specs.Car.{withLevers, withPedals, withLimiter, withCruise, withRadar, withGap}
 use Rattle.car.specs.Checks.{ownCheck, inputCheck, eventCheck}
-use Rattle.car.specs.Drive.{inputNext, eventNext}
+use Rattle.car.specs.Drive.{inputNext, eventNext, isTick}
 use Rattle.car.specs.Good.{leverHeld}
 use Rattle.car.specs.KeepLaws.{tickSpeed-up, tickSpeed-down, whileHeld-held, neutral-free}
 use Rattle.car.specs.Rules.{keyTurned, leverDesired, upDownMoved, withForeback, engages, engaged, forward, cruiseOff, backward, foreBackMoved, brakePressed, gasPressed, buttonPressed, signPassed, readingTaken, tickDesired, ticked}
 use Rattle.car.specs.Standing.{Good}
-use Rattle.history.specs.Neighbours.{isTick, inputLever, isLever, Neighbours}
+use Rattle.history.specs.Neighbours.{inputLever, isLever, Neighbours}
 
 no : {A : Type 0} → true ≡ false → A
 no e = absurd (true≢false e)

@@ -10,11 +10,8 @@ use Rattle.event.specs.declared.Input.the-variants.{Key, UpDown, ForeBack, Brak
 use Rattle.event.specs.declared.Event.{Event}
 use Rattle.event.specs.declared.Event.the-variants as event
 use Rattle.car.specs.declared.Car.{Car}
+use Rattle.car.specs.Drive.{isTick}
 use Rattle.car.specs.Good.{leverHeld}
-
-unfoldable pub isTick : Event → Bool
-isTick (event.Input i) = false
-isTick (event.Tick ready) = true
 
 -- an event of the up-down lever
 unfoldable pub inputLever : Input → Bool

@@ -13,13 +13,12 @@ use Rattle.event.specs.declared.Input.the-variants.{ForeBack}
 use Rattle.event.specs.declared.Event.the-variants as event
 use Rattle.event.specs.Words.{readOf}
 use Rattle.car.specs.declared.Car.{Car}
-use Rattle.car.specs.Drive.{inputNext, eventNext, readingNext, nextOf, chosen, stepOf}
+use Rattle.car.specs.Drive.{inputNext, eventNext, readingNext, nextOf, chosen, stepOf, accepted}
 use Rattle.car.specs.Good.{goodOf}
 use Rattle.car.specs.GoodLaws.{good}
 use Rattle.car.specs.KeptLaws.{forward-takes-kept}
 use Rattle.car.specs.Lesson.{driven}
 use Rattle.car.specs.Rules.{foreBackMoved}
-use Rattle.history.specs.History.{accepted}
 use Rattle.history.specs.HistoryLaws.{driven-append}
 use Rattle.history.specs.KeptDesired.{renewing, acceptedKey, Never}
 use Rattle.history.specs.KeptDesiredLaws.{kept, key-kept}

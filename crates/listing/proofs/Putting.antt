@@ -1,14 +1,13 @@
--- Texts put by stores, and one after another.
+-- Texts put by stores.
 -- Assumes nothing.
-use mathlib.Core.Path.{_≡_, refl, _∙_}
-use mathlib.Core.List.{List, [], _∷_, _++_}
+use mathlib.Core.Path.{refl}
+use mathlib.Core.List.{List, [], _∷_}
 use Prim.Native.Nat.{ℕ, _+_, _≤_}
-use native.Mathlib.Nat.{add-assoc, le-refl}
+use native.Mathlib.Nat.{le-refl}
 use native.Mathlib.Numerals.{add-one, add-two, add-three}
-use native.Mathlib.Omega.{arith}
-use lib.ListN.{length, length-append, set}
+use lib.ListN.{length, set}
 use lib.Seq.{sets, sets-eq}
-use Rattle.kit.specs.Placed.{placed, placed-more}
+use Rattle.kit.specs.Placed.{placed}
 use Rattle.listing.specs.Put.{Put}
 
 stored : (out : List ℕ) (at : ℕ) (text : List ℕ) → at + length text ≤ length out → Put out at text (length text) (sets out at text) (at + length text)
@@ -24,17 +23,3 @@ stored-two out at a b h = rw add-one (stored out at (a ∷ b ∷ []) h)
 pub stored-four : (out : List ℕ) (at a b c d : ℕ) → at + 4 ≤ length out
     → Put out at (a ∷ b ∷ c ∷ d ∷ []) 4 (set (set (set (set out at a) (at + 1) b) (at + 2) c) (at + 3) d) (at + 4)
 stored-four out at a b c d h = rw (add-one, add-two, add-three) (stored out at (a ∷ b ∷ c ∷ d ∷ []) h)
-
-pub put-then : {out : List ℕ} {at : ℕ} {text : List ℕ} {most : ℕ} {after : List ℕ} {past : ℕ} {text′ : List ℕ} {most′ : ℕ} {after′ : List ℕ} {past′ : ℕ}
-    → Put out at text most after past → Put after past text′ most′ after′ past′ → at ≤ length out → Put out at (text ++ text′) (most + most′) after′ past′
-put-then {out} {at} {text} {text′ = text′} p q h =
-    record {
-      index = q .index ∙ rw (p .index, length-append text text′) (add-assoc _ _ _);
-      slice = q .slice ∙ rw (p .slice, p .index) (placed-more out at text text′ h);
-      short = simp length-append (omega (arith, p .short, q .short));
-    }
-
--- the same text under another name, with a wider bound
-pub put-as : {out : List ℕ} {at : ℕ} {text text′ : List ℕ} {most most′ : ℕ} {after : List ℕ} {past : ℕ}
-    → Put out at text most after past → text′ ≡ text → most ≤ most′ → Put out at text′ most′ after past
-put-as p e h = rw e (record { index = p .index; slice = p .slice; short = omega (arith, p .short) })

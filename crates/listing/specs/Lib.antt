@@ -1,3 +1,4 @@
 pub mod Listing
 pub mod ListingLaws
 pub mod Put
+pub mod PutLaws

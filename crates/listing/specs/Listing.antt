@@ -61,9 +61,13 @@ unfoldable pub ascii : String → List ℕ
 ascii []ˢ = []
 ascii (c ∷ˢ s) = code c ∷ ascii s
 
+-- a line of a name and a number
+unfoldable pub numberLine : List ℕ → ℕ → List ℕ
+numberLine name n = name ++ decimalOf n ++ ascii "\n"
+
 -- the line of a refusal
 unfoldable pub refusedText : ℕ → List ℕ
-refusedText n = ascii "refused " ++ decimalOf n ++ ascii "\n"
+refusedText n = numberLine (ascii "refused ") n
 
 -- ---- text in a slice
 

@@ -13,7 +13,7 @@ use Rattle.kit.specs.Pick.{pick, pick-true, pick-false, pick-case}
 use Rattle.kit.specs.Placed.{placed}
 use Rattle.event.specs.Words.{bitOf}
 use Rattle.answer.specs.AnswerWord.{readOf}
-use Rattle.listing.specs.Listing.{digit, decimalIn, decimalOf, fieldOf, signedOf, warningsOf, answerLine, lineOf, ascii, refusedText, putPast, putAfter}
+use Rattle.listing.specs.Listing.{digit, decimalIn, decimalOf, fieldOf, signedOf, warningsOf, answerLine, lineOf, ascii, numberLine, refusedText, putPast, putAfter}
 
 -- ---- digits
 
@@ -60,10 +60,14 @@ decimal-length (suc k) n h = go (ltb n 10) refl (decimal-length k (n / 10) (omeg
     go true e g = rw (decimal-one n (ltb-true n 10 e)) (omega arith)
     go false e g = rw (decimal-more n (ltb-false n 10 e)) (simp length-append (omega arith))
 
--- ---- the line of a refusal
+-- ---- a line of a name and a number, and that of a refusal
+pub line-length : (name : List ℕ) (n : ℕ) → n < 10 ^ 20 → length (numberLine name n) ≤ length name + 21
+unfolding ascii numberLine
+line-length name n h = simp length-append (omega (arith, decimal-length 19 n h))
+
 pub refused-length : (n : ℕ) → n < 10 ^ 20 → length (refusedText n) ≤ 29
 unfolding ascii refusedText
-refused-length n h = simp length-append (omega (arith, decimal-length 19 n h))
+refused-length n h = line-length (ascii "refused ") n h
 
 -- ---- a text in a slice
 -- where there is room for it

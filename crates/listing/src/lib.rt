@@ -9,6 +9,7 @@ mod line;
 mod text;
 
 pub use text::put_decimal;
+pub use text::put_number_line;
 pub use text::put_refused;
 pub use text::put_text;
 

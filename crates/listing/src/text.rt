@@ -1,7 +1,8 @@
-// A text, a number and the line of a refusal at an index of a slice.
+// A text, a number, and a line of both at an index of a slice.
 ghost use mathlib.Core.Path.{_≡_};
+ghost use Prim.Native.Nat.{_+_};
 ghost use lib.ListN.{length};
-ghost use Rattle.listing.specs.Listing.{decimalOf, refusedText, putPast, putAfter};
+ghost use Rattle.listing.specs.Listing.{decimalOf, numberLine, refusedText, putPast, putAfter};
 use crate::digits::put_number;
 
 pub fn put_text(out: &mut [u8], at: usize, text: &[u8]) -> usize
@@ -34,17 +35,28 @@ pub fn put_decimal(out: &mut [u8], at: usize, n: u64) -> usize
     put_number(out, at, n)
 }
 
+// A name, a number and the end of the line. Room is 21 bytes more than the name has.
+pub fn put_number_line(out: &mut [u8], at: usize, name: &[u8], n: u64) -> usize
+    ensures { λ r. ⌜ (r ≡ putPast (now (out .entry)) at (length (now (name .entry)) + 21) (numberLine (now (name .entry)) n)) × (now (out .exit) ≡ putAfter (now (out .entry)) at (length (now (name .entry)) + 21) (numberLine (now (name .entry)) n)) ⌝ }
+{
+    if out.len() < 21 {
+        return at;
+    }
+    let room = out.len() - 21;
+    if room < name.len() {
+        return at;
+    }
+    if room - name.len() < at {
+        return at;
+    }
+    let number = put_text(out, at, name);
+    let end = put_decimal(out, number, n);
+    put_text(out, end, b"\n")
+}
+
 // "refused", a refusal's number and the end of the line. Room is 29 bytes.
 pub fn put_refused(out: &mut [u8], at: usize, refusal: u32) -> usize
     ensures { λ r. ⌜ (r ≡ putPast (now (out .entry)) at 29 (refusedText refusal)) × (now (out .exit) ≡ putAfter (now (out .entry)) at 29 (refusedText refusal)) ⌝ }
 {
-    if out.len() < 29 {
-        return at;
-    }
-    if out.len() - 29 < at {
-        return at;
-    }
-    let number = put_text(out, at, b"refused ");
-    let end = put_decimal(out, number, refusal as u64);
-    put_text(out, end, b"\n")
+    put_number_line(out, at, b"refused ", refusal as u64)
 }

@@ -9,16 +9,17 @@ use lib.Seq.{take-all}
 use Rattle.kit.specs.Answer.{Answer, gives, refused}
 use Rattle.kit.specs.Pick.{pick-true, pick-false, picks, and-both, and-left, and-right}
 use Rattle.car.specs.declared.Car.{Car}
-use Rattle.car.specs.declared.lesson.Taught.{Taught}
+use Rattle.car.specs.declared.lesson.Ran.{Ran}
 use Rattle.car.specs.Good.{goodOf}
-use Rattle.car.specs.Lesson.{answersAfter, lessonOf}
+use Rattle.car.specs.Mark.{runOf, runAfter}
+use Rattle.record.specs.declared.RunOutcome.{RunOutcome}
 use Rattle.record.specs.declared.Written.{Written}
 use Rattle.record.specs.Layout.{packed, unpacked}
 use Rattle.record.specs.LayoutLaws.{Fits, packed-length}
 use Rattle.record.specs.Record.{sameWords, writeOf, readOf, savedRefusal, savedBuffer}
 use Rattle.record.specs.RecordLaws.{same-eq, not-accepted, written-yes, written-no, written-twelve}
-use Rattle.record.specs.RecordLesson.{LessonLeft, lessonLeft, taughtLeft}
-use Rattle.record.specs.RecordLessonLaws.{lesson-fits, left-none, left-some, left-marked, left-unread}
+use Rattle.record.specs.RecordLesson.{RunLeft, runLeft, ranLeft}
+use Rattle.record.specs.RecordLessonLaws.{run-fits, left-none, left-some, left-marked, left-unread}
 
 pub write-yes : (c : Car) (p : List ℕ) → goodOf c ≡ true → p ≡ packed c → record { refusal = 0; words = p } ≡ writeOf c
 unfolding writeOf
@@ -75,17 +76,21 @@ module _ (c : Car) (b : List ℕ) (w : Written) (e : w ≡ writeOf c) where
       rw (saved c b _ x p f) (search picks, search picks)
 
 -- ---- a lesson of a record's car
-module _ (c : Car) (ws events answers : List ℕ) (t : Taught) (answered : List ℕ) (e : t ≡ lessonOf c events answers) (f : answered ≡ answersAfter c events answers) where
-  pub taught-none : (r a n : ℕ) → t .refusal ≡ 18 → r ≡ 18 → a ≡ 0 → n ≡ 0
-      → _≡_ {A = LessonLeft} (record { refusal = r; words = ws; answers = answered; accepted = a; refused = n }) (taughtLeft c ws events answers)
-  taught-none r a n z er ea en = rw (er, ea, en, f) (left-none c events answers ws (rw e at z))
+module _ (halt mark : ℕ) (c : Car) (ws events answers : List ℕ) (t : Ran) (answered : List ℕ) (e : t ≡ runOf halt mark c events answers) (f : answered ≡ runAfter halt c events answers) where
+  pub ran-none : (r : RunOutcome) → t .refusal ≡ 18 → r ≡ record { refusal = 18; accepted = 0; refused = 0; seconds = 0; found = false }
+      → _≡_ {A = RunLeft}
+      (record { refusal = r .refusal; words = ws; answers = answered; accepted = r .accepted; refused = r .refused; seconds = r .seconds; found = r .found })
+      (ranLeft halt mark c ws events answers)
+  ran-none r z er = rw (er, f) (left-none halt mark c events answers ws (rw e at z))
 
-  pub taught-fits : (t .refusal ≡ 18 → ⊥) → Fits (t .car)
-  taught-fits n = rw e (lesson-fits c events answers (λ z. n (rw e z)))
+  pub ran-fits : (t .refusal ≡ 18 → ⊥) → Fits (t .car)
+  ran-fits n = rw e (run-fits halt mark c events answers (λ z. n (rw e z)))
 
-  pub taught-some : (x : List ℕ) → (t .refusal ≡ 18 → ⊥) → packed c ≡ ws → x ≡ packed (t .car) ++ drop 12 ws
-      → _≡_ {A = LessonLeft} (record { refusal = t .refusal; words = x; answers = answered; accepted = t .accepted; refused = t .refused }) (taughtLeft c ws events answers)
-  taught-some x n p h = rw (h, e, f) (left-some c events answers ws (λ z. n (rw e z)) p)
+  pub ran-some : (x : List ℕ) → (t .refusal ≡ 18 → ⊥) → packed c ≡ ws → x ≡ packed (t .car) ++ drop 12 ws
+      → _≡_ {A = RunLeft}
+      (record { refusal = t .refusal; words = x; answers = answered; accepted = t .accepted; refused = t .refused; seconds = t .seconds; found = t .found })
+      (ranLeft halt mark c ws events answers)
+  ran-some x n p h = rw (h, e, f) (left-some halt mark c events answers ws (λ z. n (rw e z)) p)
 
 pub twelve-packed : (c : Car) (ws : List ℕ) → packed c ≡ ws → 12 ≤ length ws
 twelve-packed c ws e = rw (sym e) (omega (arith, packed-length c))
@@ -98,13 +103,15 @@ module _ (ws x : List ℕ) (c : Car) (p : List ℕ) (s : Bool) (l : length ws �
   pub marked : s ≡ true → packed c ≡ ws
   marked t = sym h ∙ same-eq p x (sym m ∙ t) ∙ copied
 
-  pub left-read : (events answers : List ℕ) → s ≡ true → taughtLeft c ws events answers ≡ lessonLeft ws (readOf ws) events answers
-  left-read events answers t =
-      left-marked ws events answers c s (u ∙ ap unpacked copied) (m ∙ rw (h, copied)) t
+  pub left-read : (halt mark : ℕ) (events answers : List ℕ) → s ≡ true → ranLeft halt mark c ws events answers ≡ runLeft halt mark ws (readOf ws) events answers
+  left-read halt mark events answers t =
+      left-marked halt mark ws events answers c s (u ∙ ap unpacked copied) (m ∙ rw (h, copied)) t
 
   pub unmarked : s ≡ false → refused 18 ≡ readOf ws
   unmarked t = read-other x c p s u h m t ∙ ap readOf copied
 
-pub left-no : (ws events answers : List ℕ) (r a n : ℕ) → refused 18 ≡ readOf ws → r ≡ 18 → a ≡ 0 → n ≡ 0
-    → _≡_ {A = LessonLeft} (record { refusal = r; words = ws; answers = answers; accepted = a; refused = n }) (lessonLeft ws (readOf ws) events answers)
-left-no ws events answers r a n h er ea en = rw (er, ea, en) (left-unread ws events answers h)
+pub left-no : (halt mark : ℕ) (ws events answers : List ℕ) (r : RunOutcome) → refused 18 ≡ readOf ws → r ≡ record { refusal = 18; accepted = 0; refused = 0; seconds = 0; found = false }
+    → _≡_ {A = RunLeft}
+    (record { refusal = r .refusal; words = ws; answers = answers; accepted = r .accepted; refused = r .refused; seconds = r .seconds; found = r .found })
+    (runLeft halt mark ws (readOf ws) events answers)
+left-no halt mark ws events answers r h er = rw er (left-unread halt mark ws events answers h)

@@ -108,6 +108,13 @@ read-packed ws c h =
     let r = read-accepted ws c h in
     rw (r .1) (accepted-words ws (r .0), good-test (unpacked ws) (r .0 .good))
 
+-- a good car is the one that its record gives, and a record has twelve words
+pub own-record : (c : Car) → goodOf c ≡ true → unpacked (packed c) ≡ c
+own-record c g = unpacked-packed c (good-fits c g)
+
+pub twelve : (c : Car) {ws : List ℕ} → ws ≡ packed c → length ws ≡ 12
+twelve c e = ap length e ∙ packed-length c
+
 -- ---- the writer by value
 -- a good car written and read again is the same
 pub written-read : (c : Car) → goodOf c ≡ true → (writeOf c .refusal ≡ 0) × (readOf (writeOf c .words) ≡ gives c)
@@ -192,3 +199,16 @@ saved-kept c buffer = go (goodOf c) (ltb (length buffer) 12)
     go true true h = refl
     go true false h = absurd (h refl)
     go false s h = refl
+
+-- ---- what was written with no refusal: the record of a good car, which is read back as that car
+pub record WrittenRecord (c : Car) (words : List ℕ) : Type 0 where
+  pub good : goodOf c ≡ true
+  pub car : unpacked words ≡ c
+  pub accepted : readOf words ≡ gives (unpacked words)
+
+pub written-record : (c : Car) (w : Written) → w ≡ writeOf c → w .refusal ≡ 0 → WrittenRecord c (w .words)
+written-record c w e z =
+    let y = written-yes c (rw e at z) in
+    let p : w .words ≡ packed c = rw e (y .0) in
+    let o = own-record c (y .1) in
+    record { good = y .1; car = rw p o; accepted = rw p (packed-read c (y .1) ∙ ap gives (sym o)) }

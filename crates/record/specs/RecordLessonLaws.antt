@@ -2,71 +2,78 @@
 -- Assumes nothing.
 use mathlib.Core.Bool.{Bool, true, false, _&&_}
 use mathlib.Core.List.{List, _++_, append-nil}
-use mathlib.Core.Path.{_≡_, refl, sym, _∙_}
+use mathlib.Core.Path.{_≡_, refl, sym, ap, _∙_}
 use Prim.Native.Nat.{ℕ}
 use native.Mathlib.Omega.{arith}
 use lib.Dec.{ltb}
 use lib.ListN.{length, drop, drop-of-length-le}
-use Rattle.kit.specs.Answer.{gives, refused}
+use Rattle.kit.specs.Answer.{Answer, gives, refused}
 use Rattle.kit.specs.Pick.{pick, pick-true, pick-case}
 use Rattle.car.specs.declared.Car.{Car}
+use Rattle.car.specs.declared.lesson.Ran.{Ran}
 use Rattle.car.specs.declared.lesson.Taught.{Taught}
 use Rattle.car.specs.Good.{goodOf}
-use Rattle.car.specs.Lesson.{eachAfter, answersAfter, taughtOf, untaught, lessonOf}
+use Rattle.car.specs.Lesson.{answersAfter}
 use Rattle.car.specs.LessonLaws.{driven-good}
+use Rattle.car.specs.Mark.{searched, ranOf, unran, runOf, runAfter}
+use Rattle.car.specs.MarkLaws.{run-whole, after-whole}
 use Rattle.record.specs.Layout.{packed, unpacked}
 use Rattle.record.specs.LayoutLaws.{Fits, good-fits, packed-length}
 use Rattle.record.specs.Record.{sameWords, readOf}
-use Rattle.record.specs.RecordLesson.{LessonLeft, lessonLeft, taughtLeft}
+use Rattle.record.specs.RecordLesson.{lessonLeft, RunLeft, runLeft, asLesson, ranLeft}
 
-module _ (c : Car) (events answers : List ℕ) where
+module _ (halt mark : ℕ) (c : Car) (events answers : List ℕ) where
   -- 18 exactly for a car that is not good
-  lesson-known : (lessonOf c events answers .refusal ≡ 18 → ⊥) → goodOf c ≡ true
-  unfolding lessonOf untaught
-  lesson-known =
-      pick-case (λ (t : Taught). (t .refusal ≡ 18 → ⊥) → goodOf c ≡ true) (goodOf c) _ _ (λ g n. g) (λ g n. absurd (n refl))
+  run-known : (runOf halt mark c events answers .refusal ≡ 18 → ⊥) → goodOf c ≡ true
+  unfolding runOf unran
+  run-known =
+      pick-case (λ (t : Ran). (t .refusal ≡ 18 → ⊥) → goodOf c ≡ true) (goodOf c) _ _ (λ g n. g) (λ g n. absurd (n refl))
 
-  lesson-unknown : lessonOf c events answers .refusal ≡ 18 → goodOf c ≡ false
-  unfolding lessonOf untaught taughtOf
-  lesson-unknown =
-      pick-case (λ (t : Taught). t .refusal ≡ 18 → goodOf c ≡ false) (goodOf c) _ _
-      (λ g. pick-case (λ (t : Taught). t .refusal ≡ 18 → goodOf c ≡ false) (ltb (length answers) (length events)) _ _
+  run-unknown : runOf halt mark c events answers .refusal ≡ 18 → goodOf c ≡ false
+  unfolding runOf unran ranOf
+  run-unknown =
+      pick-case (λ (t : Ran). t .refusal ≡ 18 → goodOf c ≡ false) (goodOf c) _ _
+      (λ g. pick-case (λ (t : Ran). t .refusal ≡ 18 → goodOf c ≡ false) (ltb (length answers) (length events)) _ _
       (λ t e. absurd (omega arith)) (λ t e. absurd (omega arith)))
       (λ g e. g)
 
-  lesson-good : goodOf c ≡ true → goodOf (lessonOf c events answers .car) ≡ true
-  unfolding lessonOf untaught taughtOf
-  lesson-good g =
+  run-good : goodOf c ≡ true → goodOf (runOf halt mark c events answers .car) ≡ true
+  unfolding runOf unran ranOf
+  run-good g =
       rw (pick-true _ _ _ g)
-      (pick-case (λ (t : Taught). goodOf (t .car) ≡ true) (ltb (length answers) (length events)) _ _ (λ t. g) (λ t. driven-good c events g))
+      (pick-case (λ (t : Ran). goodOf (t .car) ≡ true) (ltb (length answers) (length events)) _ _ (λ t. g) (λ t. driven-good c (searched halt c events) g))
 
-  pub lesson-fits : (lessonOf c events answers .refusal ≡ 18 → ⊥) → Fits (lessonOf c events answers .car)
-  lesson-fits n = good-fits _ (lesson-good (lesson-known n))
+  pub run-fits : (runOf halt mark c events answers .refusal ≡ 18 → ⊥) → Fits (runOf halt mark c events answers .car)
+  run-fits n = good-fits _ (run-good (run-known n))
 
   -- no lesson: all is kept
-  pub left-none : (words : List ℕ) → lessonOf c events answers .refusal ≡ 18
-      → _≡_ {A = LessonLeft} (record { refusal = 18; words = words; answers = answersAfter c events answers; accepted = 0; refused = 0 }) (taughtLeft c words events answers)
-  unfolding taughtLeft lessonLeft eachAfter pick
-  left-none words e = rw (lesson-unknown e)
+  pub left-none : (words : List ℕ) → runOf halt mark c events answers .refusal ≡ 18
+      → _≡_ {A = RunLeft}
+      (record { refusal = 18; words = words; answers = runAfter halt c events answers; accepted = 0; refused = 0; seconds = 0; found = false })
+      (ranLeft halt mark c words events answers)
+  unfolding ranLeft runLeft runAfter pick
+  left-none words e = rw (run-unknown e)
 
   -- a lesson: the record of the car afterwards stands in the words' place
-  pub left-some : (words : List ℕ) → (lessonOf c events answers .refusal ≡ 18 → ⊥) → packed c ≡ words
-      → _≡_ {A = LessonLeft}
+  pub left-some : (words : List ℕ) → (runOf halt mark c events answers .refusal ≡ 18 → ⊥) → packed c ≡ words
+      → _≡_ {A = RunLeft}
       (record {
-        refusal = lessonOf c events answers .refusal;
-        words = packed (lessonOf c events answers .car) ++ drop 12 words;
-        answers = answersAfter c events answers;
-        accepted = lessonOf c events answers .accepted;
-        refused = lessonOf c events answers .refused;
+        refusal = runOf halt mark c events answers .refusal;
+        words = packed (runOf halt mark c events answers .car) ++ drop 12 words;
+        answers = runAfter halt c events answers;
+        accepted = runOf halt mark c events answers .accepted;
+        refused = runOf halt mark c events answers .refused;
+        seconds = runOf halt mark c events answers .seconds;
+        found = runOf halt mark c events answers .found;
       })
-      (taughtLeft c words events answers)
-  unfolding taughtLeft lessonLeft
+      (ranLeft halt mark c words events answers)
+  unfolding ranLeft runLeft
   left-some words n e =
       let l : length words ≡ 12 = rw (sym e) (packed-length c) in
       rw (
-        pick-true (goodOf c) (gives c) (refused 18) (lesson-known n),
+        pick-true (goodOf c) (gives c) (refused 18) (run-known n),
         drop-of-length-le words {i = 12} (omega arith),
-        append-nil (packed (lessonOf c events answers .car)),
+        append-nil (packed (runOf halt mark c events answers .car)),
       )
 
 -- ---- the record that words are
@@ -79,12 +86,22 @@ read-marked ws e = rw e (go (goodOf (unpacked ws)))
     go true = refl
     go false = refl
 
-pub left-marked : (ws events answers : List ℕ) (c : Car) (s : Bool) → c ≡ unpacked ws → s ≡ sameWords (packed c) ws → s ≡ true
-    → taughtLeft c ws events answers ≡ lessonLeft ws (readOf ws) events answers
-unfolding taughtLeft
-left-marked ws events answers c s e h t = rw (e, read-marked ws (rw e at (sym h ∙ t)))
+module _ (halt mark : ℕ) (ws events answers : List ℕ) where
+  pub left-marked : (c : Car) (s : Bool) → c ≡ unpacked ws → s ≡ sameWords (packed c) ws → s ≡ true
+      → ranLeft halt mark c ws events answers ≡ runLeft halt mark ws (readOf ws) events answers
+  unfolding ranLeft
+  left-marked c s e h t = rw (e, read-marked ws (rw e at (sym h ∙ t)))
 
-pub left-unread : (ws events answers : List ℕ) → refused 18 ≡ readOf ws
-    → _≡_ {A = LessonLeft} (record { refusal = 18; words = ws; answers = answers; accepted = 0; refused = 0 }) (lessonLeft ws (readOf ws) events answers)
-unfolding lessonLeft
-left-unread ws events answers e = rw (sym e)
+  pub left-unread : refused 18 ≡ readOf ws
+      → _≡_ {A = RunLeft} (record { refusal = 18; words = ws; answers = answers; accepted = 0; refused = 0; seconds = 0; found = false }) (runLeft halt mark ws (readOf ws) events answers)
+  unfolding runLeft
+  left-unread e = rw (sym e)
+
+-- ---- nothing stops it with the mark 0: it is a lesson
+pub left-lesson : (mark : ℕ) (words : List ℕ) (r : Answer Car) (events answers : List ℕ)
+    → asLesson (runLeft 0 mark words r events answers) ≡ lessonLeft words r events answers
+unfolding runLeft lessonLeft
+left-lesson mark words (gives c) events answers =
+    let e = run-whole c events mark answers in
+    rw (after-whole c events answers) (ap (λ (t : Taught). record { refusal = t .refusal; words = packed (t .car); answers = answersAfter c events answers; accepted = t .accepted; refused = t .refused }) e)
+left-lesson mark words (refused n) events answers = refl

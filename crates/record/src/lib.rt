@@ -1,4 +1,5 @@
 // A car's record (document 01, "The record"): twelve words, written from a good car and read back.
+ghost use mathlib.Core.Bool.{false};
 ghost use mathlib.Core.Path.{_≡_};
 ghost use mathlib.Core.List.{_++_};
 ghost use Prim.Native.Nat.{_≤_};
@@ -6,7 +7,7 @@ ghost use lib.ListN.{length, drop};
 ghost use Rattle.record.specs.Layout.{packed};
 ghost use Rattle.record.specs.LayoutLaws.{Fits};
 ghost use Rattle.record.specs.Record.{readingAnswer, readOf, writeOf, savedRefusal, savedBuffer};
-ghost use Rattle.record.specs.RecordLesson.{LessonLeft, taughtLeft, lessonLeft};
+ghost use Rattle.record.specs.RecordLesson.{LessonLeft, lessonLeft, RunLeft, runLeft, ranLeft};
 use car::Car;
 use event::refusal::NOT_ACCEPTED;
 use event::refusal::SHORT_RECORD;
@@ -99,36 +100,63 @@ pub struct Outcome {
     pub refused: usize,
 }
 
-fn no_car() -> Outcome
-    ensures { λ r. ⌜ (r .refusal ≡ 18) × (r .accepted ≡ 0) × (r .refused ≡ 0) ⌝ }
+// The same of a lesson that stops where a mark is passed, with the seconds that ended at or above a mark and whether one passed.
+pub struct RunOutcome {
+    pub refusal: u32,
+    pub accepted: usize,
+    pub refused: usize,
+    pub seconds: usize,
+    pub found: bool,
+}
+
+fn no_car() -> RunOutcome
+    ensures { λ r. ⌜ r ≡ record { refusal = 18; accepted = 0; refused = 0; seconds = 0; found = false } ⌝ }
 {
-    Outcome {
+    RunOutcome {
         refusal: NOT_ACCEPTED,
         accepted: 0,
         refused: 0,
+        seconds: 0,
+        found: false,
     }
 }
 
 // A lesson of a car, whose record the words are: that of the car afterwards takes its place.
-fn teach(car: Car, words: &mut [u32], events: &[u32], answers: &mut [u32]) -> Outcome
+fn teach(
+    car: Car,
+    words: &mut [u32],
+    events: &[u32],
+    answers: &mut [u32],
+    halt: u32,
+    mark: u32,
+) -> RunOutcome
     requires { ⌜ packed car ≡ now words ⌝ }
-    ensures { λ r. ⌜ _≡_ {A = LessonLeft} (record { refusal = r .refusal; words = now (words .exit); answers = now (answers .exit); accepted = r .accepted; refused = r .refused }) (taughtLeft car (now (words .entry)) (now (events .entry)) (now (answers .entry))) ⌝ }
+    ensures { λ r. ⌜ _≡_ {A = RunLeft} (record { refusal = r .refusal; words = now (words .exit); answers = now (answers .exit); accepted = r .accepted; refused = r .refused; seconds = r .seconds; found = r .found }) (ranLeft halt mark car (now (words .entry)) (now (events .entry)) (now (answers .entry))) ⌝ }
 {
-    let taught = car.lesson(events, answers);
-    if taught.refusal == NOT_ACCEPTED {
+    let ran = car.run(events, answers, halt, mark);
+    if ran.refusal == NOT_ACCEPTED {
         return no_car();
     }
-    save(taught.car, words);
-    Outcome {
-        refusal: taught.refusal,
-        accepted: taught.accepted,
-        refused: taught.refused,
+    save(ran.car, words);
+    RunOutcome {
+        refusal: ran.refusal,
+        accepted: ran.accepted,
+        refused: ran.refused,
+        seconds: ran.seconds,
+        found: ran.found,
     }
 }
 
-// A lesson of the car whose record lent words are. The car's own test is the lesson's, and made once.
-pub fn lesson(words: &mut [u32], events: &[u32], answers: &mut [u32]) -> Outcome
-    ensures { λ r. ⌜ _≡_ {A = LessonLeft} (record { refusal = r .refusal; words = now (words .exit); answers = now (answers .exit); accepted = r .accepted; refused = r .refused }) (lessonLeft (now (words .entry)) (readOf (now (words .entry))) (now (events .entry)) (now (answers .entry))) ⌝ }
+// A lesson of the car whose record lent words are, up to the first word that passes the mark `halt` (0: nowhere), with the seconds that ended at
+// `mark` or above. The car's own test is the lesson's, and made once.
+pub fn run(
+    words: &mut [u32],
+    events: &[u32],
+    answers: &mut [u32],
+    halt: u32,
+    mark: u32,
+) -> RunOutcome
+    ensures { λ r. ⌜ _≡_ {A = RunLeft} (record { refusal = r .refusal; words = now (words .exit); answers = now (answers .exit); accepted = r .accepted; refused = r .refused; seconds = r .seconds; found = r .found }) (runLeft halt mark (now (words .entry)) (readOf (now (words .entry))) (now (events .entry)) (now (answers .entry))) ⌝ }
 {
     if words.len() != 12 {
         return no_car();
@@ -137,7 +165,19 @@ pub fn lesson(words: &mut [u32], events: &[u32], answers: &mut [u32]) -> Outcome
     words::copy(words, &mut array);
     let car = layout::unpack(array);
     if words::same(layout::pack(car), array) {
-        return teach(car, words, events, answers);
+        return teach(car, words, events, answers, halt, mark);
     }
     no_car()
+}
+
+// A lesson of the car whose record lent words are.
+pub fn lesson(words: &mut [u32], events: &[u32], answers: &mut [u32]) -> Outcome
+    ensures { λ r. ⌜ _≡_ {A = LessonLeft} (record { refusal = r .refusal; words = now (words .exit); answers = now (answers .exit); accepted = r .accepted; refused = r .refused }) (lessonLeft (now (words .entry)) (readOf (now (words .entry))) (now (events .entry)) (now (answers .entry))) ⌝ }
+{
+    let run = run(words, events, answers, 0, 0);
+    Outcome {
+        refusal: run.refusal,
+        accepted: run.accepted,
+        refused: run.refused,
+    }
 }

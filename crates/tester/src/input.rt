@@ -8,11 +8,11 @@ use console::Reading;
 use libc::STDIN_FILENO;
 use settings::Writing;
 
-// Reads all of standard input, 65,536 bytes at most. `what` is the program and the input's name. No contract can say what is read.
+// Reads all of standard input, 131,072 bytes at most. `what` is the program and the input's name. No contract can say what is read.
 pub fn read_words(words: &mut [u32], what: &[u8]) -> Reading
     ensures { λ r. ⌜ r .count ≤ length (now (words .exit)) ⌝ }
 {
-    let mut bytes = [0; 65536];
+    let mut bytes = [0; 131072];
     let got = console::read_all(STDIN_FILENO, &mut bytes, what);
     let count = got.count;
     Reading {

@@ -14,7 +14,7 @@ pub use input::settings_word;
 pub use input::size;
 pub use input::word;
 pub use output::car_line;
-pub use output::count;
+pub use output::count_line;
 pub use output::end_line;
 pub use output::last;
 pub use output::lesson_line;

@@ -44,7 +44,7 @@ pub fn number(out: &mut [u8], at: usize, n: u32) -> usize
 }
 
 // A count of words and a blank.
-pub fn count(out: &mut [u8], at: usize, n: usize) -> usize
+fn count(out: &mut [u8], at: usize, n: usize) -> usize
     ensures { λ r. ⌜ page (now (out .exit)) r ≡ putNumber (page (now (out .entry)) at) n ⌝ }
 {
     ended(out, at, n as u64, b' ')
@@ -78,7 +78,16 @@ pub fn words_line(out: &mut [u8], at: usize, words: &[u32]) -> usize
     end_line(out, end)
 }
 
-// The line of a lesson: its refusal and its counts of words.
+// The line of a refusal and a count.
+pub fn count_line(out: &mut [u8], at: usize, refusal: u32, n: usize) -> usize
+    ensures { λ r. ⌜ page (now (out .exit)) r ≡ putWordsLine (page (now (out .entry)) at) (refusal ∷ n ∷ []) ⌝ }
+{
+    let first = number(out, at, refusal);
+    let end = count(out, first, n);
+    end_line(out, end)
+}
+
+// The line of a lesson: its refusal and two counts.
 pub fn lesson_line(
     out: &mut [u8],
     at: usize,

@@ -10,11 +10,12 @@ use Rattle.desired.specs.Desired.{held}
 use Rattle.car.specs.declared.Car.{Car}
 use Rattle.car.specs.Car.{ceilingOf}
 use Rattle.car.specs.Distance.{visual, acoustic}
+use Rattle.car.specs.Drive.{acceptedTick}
 use Rattle.car.specs.Good.{leverHeld}
 use Rattle.car.specs.Lesson.{driven, refusedOf, lessonOf}
 use Rattle.car.specs.Standing.{Good}
 use Rattle.history.specs.Neighbours.{Neighbouring}
-use Rattle.history.specs.History.{acceptedTick, acceptedLever, acceptedWords, ticksOf, leversOf, Since, never, since}
+use Rattle.history.specs.History.{acceptedLever, acceptedWords, ticksOf, leversOf, Since, never, since}
 use Rattle.history.specs.KeptDesired.{KeptDesired}
 use Rattle.trainer.specs.Calls.{Call, lesson, keep, outcome, refusalOf, ends, outcomes, words, given, withoutKeeps, withoutKept}
 

@@ -4,8 +4,8 @@ use native.Mathlib.Omega.{arith}
 use borrow.Author.Needs.{needs}
 use lib.ListN.{length}
 use Rattle.record.specs.Layout.{unpacked}
-use Rattle.record.specs.RecordLaws.{read-packed}
-use Rattle.copy.proofs.Parts.{Counting, counting-begins, counting-again, counting-short, counting-ends, twelve}
+use Rattle.record.specs.RecordLaws.{twelve, read-packed}
+use Rattle.copy.proofs.Parts.{Counting, counting-begins, counting-again, counting-short, counting-ends}
 use Rattle.copy.proofs.fits.Statement.{statement}
 use Rattle.copy.proofs.fits.Tie as tie
 

@@ -3,8 +3,8 @@ use Prim.Native.Nat.{_-_}
 use borrow.Author.Needs.{needs}
 use lib.ListN.{length}
 use Rattle.record.specs.Layout.{unpacked}
-use Rattle.record.specs.RecordLaws.{read-packed}
-use Rattle.copy.proofs.Parts.{Writing, writing-begins, put-room, writing-again, writing-ends, twelve}
+use Rattle.record.specs.RecordLaws.{twelve, read-packed}
+use Rattle.copy.proofs.Parts.{Writing, writing-begins, put-room, writing-again, writing-ends}
 use Rattle.copy.proofs.write.Statement.{statement}
 use Rattle.copy.proofs.write.Tie as tie
 

@@ -1,7 +1,7 @@
-use mathlib.Core.Path.{_∙_}
-use Rattle.record.specs.LayoutLaws.{unpacked-fits}
-use Rattle.record.proofs.Answers.{read-length, marked, left-read, unmarked, left-no}
+use mathlib.Core.Path.{ap, _∙_}
 use borrow.Author.Needs.{needs}
+use Rattle.record.specs.RecordLesson.{asLesson}
+use Rattle.record.specs.RecordLessonLaws.{left-lesson}
 use Rattle.record.proofs.lesson.Statement.{statement}
 use Rattle.record.proofs.lesson.Tie as tie
 
@@ -10,16 +10,6 @@ lesson-spec =
     tie.close
     (tie.spec
     (λ c κs. search needs)
-    (λ c. let n = c .no-car .ensures in left-no (c .before .before .before .before .before .args .words .now) (c .before .before .before .before .before .args .events .now) (c .before .before .before .before .before .args .answers .now) _ _ _ (read-length _ (c .before .if1 .taken)) (n .0) (n .1) (n .2))
-    (λ c. search needs)
-    (λ c κs. search needs)
-    (λ c κs. search needs)
-    (λ c κs. rw (c .unpack .ensures) (unpacked-fits _))
-    (λ c κs. search needs)
-    (λ c κs. marked (c .before .before .before .before .before .before .before .before .before .before .before .before .before .before .args .words .now) _ _ _ _ (c .before .before .before .before .before .before .before .before .before .before .if1 .left) (c .before .before .before .before .before .before .before .copy .ensures) (c .before .before .before .before .before .unpack .ensures) (c .before .before .before .before .pack .ensures) (c .before .before .before .same .ensures) (c .before .before .if2 .taken))
     (λ c. search needs)
     (λ c. search needs)
-    (λ c. c .before .before .before .before .teach .ensures ∙ left-read (c .before .before .before .before .before .before .before .before .before .before .before .before .before .before .before .before .before .before .before .args .words .now) _ _ _ _ (c .before .before .before .before .before .before .before .before .before .before .before .before .before .before .before .if1 .left) (c .before .before .before .before .before .before .before .before .before .before .before .before .copy .ensures) (c .before .before .before .before .before .before .before .before .before .before .unpack .ensures) (c .before .before .before .before .before .before .before .before .before .pack .ensures) (c .before .before .before .before .before .before .before .before .same .ensures) (c .before .before .before .before .before .before .before .before .before .before .before .before .before .before .before .before .before .before .before .args .events .now) (c .before .before .before .before .before .before .before .before .before .before .before .before .before .before .before .before .before .before .before .args .answers .now) (c .before .before .before .before .before .before .before .if2 .taken))
-    (λ c κs. search needs)
-    (λ c. search needs)
-    (λ c. let n = c .no-car2 .ensures in left-no (c .before .before .before .before .before .before .before .before .before .before .before .before .before .args .words .now) (c .before .before .before .before .before .before .before .before .before .before .before .before .before .args .events .now) (c .before .before .before .before .before .before .before .before .before .before .before .before .before .args .answers .now) _ _ _ (unmarked (c .before .before .before .before .before .before .before .before .before .before .before .before .before .args .words .now) _ _ _ _ (c .before .before .before .before .before .before .before .before .before .if1 .left) (c .before .before .before .before .before .before .copy .ensures) (c .before .before .before .before .unpack .ensures) (c .before .before .before .pack .ensures) (c .before .before .same .ensures) (c .before .if2 .left)) (n .0) (n .1) (n .2)))
+    (λ c. ap asLesson (c .before .before .before .before .run .ensures) ∙ left-lesson _ (c .before .before .before .before .before .before .before .before .before .before .args .words .now) _ (c .before .before .before .before .before .before .before .before .before .before .args .events .now) (c .before .before .before .before .before .before .before .before .before .before .args .answers .now)))

@@ -1,7 +1,7 @@
-use mathlib.Core.Path.{sym, _∙_}
+use mathlib.Core.Path.{ap, _∙_}
 use borrow.Author.Needs.{needs}
-use borrow.Author.Tests.{not-true, not-false}
-use Rattle.car.proofs.Lessons.{lesson-18, lesson-19, lesson-ran}
+use Rattle.car.specs.Mark.{asTaught}
+use Rattle.car.specs.MarkLaws.{run-whole, after-whole}
 use Rattle.car.proofs.Car.lesson.Statement.{statement}
 use Rattle.car.proofs.Car.lesson.Tie as tie
 
@@ -11,10 +11,5 @@ lesson-spec =
     (tie.spec
     (λ c κs. search needs)
     (λ c κs. search needs)
-    (λ c. let l = lesson-18 _ (c .before .before .before .before .before .args .words .now) (c .before .before .before .before .before .args .answers .now) (sym (c .before .before .good2 .ensures) ∙ not-true _ (c .before .if1 .taken)) in (c .untaught .ensures ∙ l .0, l .1))
-    (λ c κs. search needs)
-    (λ c. let l = lesson-19 _ (c .before .before .before .before .before .before .args .words .now) (c .before .before .before .before .before .before .args .answers .now) (sym (c .before .before .before .good2 .ensures) ∙ not-false _ (c .before .before .if1 .left)) (c .before .if2 .taken) in (c .untaught2 .ensures ∙ l .0, l .1))
     (λ c. search needs)
-    (λ c κs. (sym (c .before .before .before .before .good2 .ensures) ∙ not-false _ (c .before .before .before .if1 .left), c .before .before .if2 .left))
-    (λ c. search needs)
-    (λ c. let t = c .before .before .before .teach .ensures in lesson-ran _ (c .before .before .before .before .before .before .before .before .before .before .before .args .words .now) (c .before .before .before .before .before .before .before .before .before .before .before .args .answers .now) _ _ (sym (c .before .before .before .before .before .before .before .before .good2 .ensures) ∙ not-false _ (c .before .before .before .before .before .before .before .if1 .left)) (c .before .before .before .before .before .before .if2 .left) (t .0) (t .1)))
+    (λ c. let r = c .before .before .before .run .ensures in (c .taught .ensures ∙ ap asTaught (r .0) ∙ run-whole _ (c .before .before .before .before .before .before .before .args .words .now) 0 (c .before .before .before .before .before .before .before .args .answers .now), r .1 ∙ after-whole _ (c .before .before .before .before .before .before .before .args .words .now) (c .before .before .before .before .before .before .before .args .answers .now))))

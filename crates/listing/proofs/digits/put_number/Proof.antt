@@ -1,7 +1,7 @@
 use native.Mathlib.Omega.{arith}
 use borrow.Author.Needs.{needs}
 use Rattle.listing.proofs.Groups.{past-eight, past-sixteen}
-use Rattle.listing.proofs.Putting.{put-as, put-then}
+use Rattle.listing.specs.PutLaws.{put-as, put-then}
 use Rattle.listing.proofs.digits.put_number.Statement.{statement}
 use Rattle.listing.proofs.digits.put_number.Tie as tie
 

@@ -4,7 +4,8 @@ use borrow.Author.Needs.{needs}
 use lib.ListN.{length-set}
 use Rattle.listing.specs.ListingLaws.{decimal-one}
 use Rattle.listing.proofs.Groups.{decimal-two, decimal-three, decimal-four}
-use Rattle.listing.proofs.Putting.{put-as, put-then, stored-one}
+use Rattle.listing.specs.PutLaws.{put-as, put-then}
+use Rattle.listing.proofs.Putting.{stored-one}
 use Rattle.listing.proofs.digits.put_small.Statement.{statement}
 use Rattle.listing.proofs.digits.put_small.Tie as tie
 

@@ -5,7 +5,7 @@ use borrow.Author.Needs.{needs}
 use lib.ListN.{length}
 use Rattle.event.specs.WordLaws.{bit-le}
 use Rattle.listing.specs.Listing.{answerLine}
-use Rattle.listing.proofs.Putting.{put-as, put-then}
+use Rattle.listing.specs.PutLaws.{put-as, put-then}
 use Rattle.listing.proofs.line.put_answer.Statement.{statement}
 use Rattle.listing.proofs.line.put_answer.Tie as tie
 

@@ -1,7 +1,8 @@
 use native.Mathlib.Omega.{arith}
 use borrow.Author.Needs.{needs}
 use Rattle.listing.specs.Listing.{fieldOf}
-use Rattle.listing.proofs.Putting.{put-then, stored-one}
+use Rattle.listing.specs.PutLaws.{put-then}
+use Rattle.listing.proofs.Putting.{stored-one}
 use Rattle.listing.proofs.line.put_field.Statement.{statement}
 use Rattle.listing.proofs.line.put_field.Tie as tie
 

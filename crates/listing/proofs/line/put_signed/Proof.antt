@@ -2,7 +2,8 @@ use native.Mathlib.Omega.{arith}
 use borrow.Author.Needs.{needs}
 use lib.ListN.{length-set}
 use Rattle.listing.specs.ListingLaws.{signed-below, signed-above}
-use Rattle.listing.proofs.Putting.{put-as, put-then, stored-one}
+use Rattle.listing.specs.PutLaws.{put-as, put-then}
+use Rattle.listing.proofs.Putting.{stored-one}
 use Rattle.listing.proofs.line.put_signed.Statement.{statement}
 use Rattle.listing.proofs.line.put_signed.Tie as tie
 

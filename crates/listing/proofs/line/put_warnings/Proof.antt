@@ -2,7 +2,8 @@ use native.Mathlib.Omega.{arith}
 use borrow.Author.Needs.{needs}
 use lib.ListN.{length-set}
 use Rattle.listing.specs.ListingLaws.{warnings-four}
-use Rattle.listing.proofs.Putting.{put-as, stored-four}
+use Rattle.listing.specs.PutLaws.{put-as}
+use Rattle.listing.proofs.Putting.{stored-four}
 use Rattle.listing.proofs.line.put_warnings.Statement.{statement}
 use Rattle.listing.proofs.line.put_warnings.Tie as tie
 

@@ -1,22 +1,10 @@
-use native.Mathlib.Omega.{arith}
 use borrow.Author.Needs.{needs}
-use Rattle.listing.specs.Listing.{ascii}
-use Rattle.listing.proofs.Answers.{no-room, refused-put}
+use Rattle.listing.specs.Listing.{ascii, refusedText}
 use Rattle.listing.proofs.text.put_refused.Statement.{statement}
 use Rattle.listing.proofs.text.put_refused.Tie as tie
 
 pub put-refused-spec : {M : Type 1} → statement M
-unfolding ascii
+unfolding ascii refusedText
 put-refused-spec =
     tie.close
-    (tie.spec
-    (λ c. no-room _ _ _ _ (omega arith))
-    (λ c. search needs)
-    (λ c. no-room _ _ _ _ (omega arith))
-    (λ c. search needs)
-    (λ c κs. search needs)
-    (λ c κs. search needs)
-    (λ c. search needs)
-    (λ c κs. search needs)
-    (λ c. search needs)
-    (λ c. refused-put _ _ _ (omega arith) (omega arith) (c .before .before .before .before .before .before .before .before .before .before .before .put-text .ensures) (c .before .before .before .before .before .before .before .put-decimal .ensures) (c .before .before .put-text2 .ensures)))
+    (tie.spec (λ c. search needs) (λ c κs. search needs) (λ c. search needs) (λ c. c .before .before .put-number-line .ensures))
