@@ -9,7 +9,7 @@ use borrow.Author.Tests.{lt-ltb, le-ltb, le-leb, ltb-true, leb-true, eq-eqb, ne-
 use lib.Dec.{eqb, ltb, leb}
 use lib.ListN.{length}
 use Rattle.kit.specs.Answer.{Answer, gives, refused}
-use Rattle.kit.specs.Pick.{pick, pick-false, pick-case, and-l, and-r, and-both, and-left, and-right, and-next}
+use Rattle.kit.specs.Pick.{pick, pick-false, pick-case, either, and-l, and-r, and-both, and-left, and-right, and-next}
 use Rattle.event.specs.declared.Input.{Input}
 use Rattle.event.specs.declared.Input.the-variants.{Key, UpDown, ForeBack, Brake, Gas, Button, Gap, Sign, Radar}
 use Rattle.event.specs.declared.Event.the-variants as event
@@ -26,10 +26,6 @@ use Rattle.car.specs.Lesson.{taughtOf, untaught, lessonOf, eachAfter, an
 use Rattle.car.specs.Mark.{passes, endsAbove, searched, ranOf, asTaught, unran, runOf, runAfter}
 use Rattle.car.specs.Rules.{keyTurned, upDownMoved, withForeback, engages, engaged, forward, cruiseOff, backward, foreBackMoved, brakePressed, gasPressed, buttonPressed, signPassed, readingTaken, testDue}
 use Rattle.car.specs.StepLaws.{Stepping, went, stayed, stepping, step-refusal}
-
-either : {P : Type 0} (t : Bool) → (t ≡ true → P) → (t ≡ false → P) → P
-either true f g = f refl
-either false f g = g refl
 
 -- ---- one word
 -- of the inputs only the key moves v, to 0

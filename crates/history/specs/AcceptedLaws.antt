@@ -1,7 +1,7 @@
 -- Laws of the accepted words of a list, for any car, good or not: a refused word leaves the car.
 -- Assumes nothing.
 use mathlib.Core.Bool.{true, false}
-use mathlib.Core.Path.{_≡_, refl, ap, _∙_}
+use mathlib.Core.Path.{_≡_, refl, ap}
 use mathlib.Core.List.{List, [], _∷_, _++_}
 use Prim.Native.Nat.{ℕ, _≤_}
 use native.Mathlib.Omega.{arith}

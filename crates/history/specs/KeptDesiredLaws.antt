@@ -7,7 +7,7 @@ use Prim.Native.Nat.{ℕ, _+_, _-_, min}
 use native.Mathlib.Omega.{arith}
 use lib.Dec.{eqb, leb, ltb}
 use borrow.Author.Tests.{eq-eqb, ne-eqb, le-ltb, lt-ltb, leb-true, leb-false}
-use Rattle.kit.specs.Pick.{pick, pick-true, pick-false, and-l, and-r, and-left, not-is}
+use Rattle.kit.specs.Pick.{pick, pick-true, pick-false, either, and-l, and-r, and-left, not-is}
 use Rattle.event.specs.declared.Input.{Input}
 use Rattle.event.specs.declared.Input.the-variants.{Key, UpDown, ForeBack, Brake, Gas, Button, Gap, Sign, Radar}
 use Rattle.event.specs.declared.Event.{Event}
@@ -30,10 +30,6 @@ use Rattle.history.specs.KeptDesired.{inputRenews, renews, isKey, renewi
 
 no : {A : Type 0} → true ≡ false → A
 no e = absurd (true≢false e)
-
-either : {P : Type 0} (t : Bool) → (t ≡ true → P) → (t ≡ false → P) → P
-either true f g = f refl
-either false f g = g refl
 
 -- ---- one event
 -- no more events renew D than have to: such an event leaves the D that its rule makes

@@ -60,6 +60,11 @@ unfolding pick
 pick-case P true a b f g = f refl
 pick-case P false a b f g = g refl
 
+-- a claim by the cases of a test
+pub either : {P : Type 0} (t : Bool) → (t ≡ true → P) → (t ≡ false → P) → P
+either true f g = f refl
+either false f g = g refl
+
 pub pick-le : (t : Bool) (a b k : ℕ) → a ≤ k → b ≤ k → pick t a b ≤ k
 unfolding pick
 pick-le true a b k f g = f

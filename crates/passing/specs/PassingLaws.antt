@@ -9,7 +9,7 @@ use lib.Dec.{ltb, leb}
 use lib.ListN.{length, length-append}
 use borrow.Author.Tests.{leb-true, le-leb, lt-leb}
 use Rattle.kit.specs.Bounds.{speedCeiling}
-use Rattle.kit.specs.Pick.{pick, pick-false, pick-le, and-l, and-r, and-both, and-left, and-right}
+use Rattle.kit.specs.Pick.{pick, pick-false, pick-le, either, and-l, and-r, and-both, and-left, and-right}
 use Rattle.car.specs.declared.Car.{Car}
 use Rattle.car.specs.Drive.{stepOf, acceptedTick}
 use Rattle.car.specs.Good.{goodOf}
@@ -28,10 +28,6 @@ use Rattle.passing.specs.FirstPass.{NonePasses, PassesAt, Searched}
 
 no : {A : Type 0} → true ≡ false → A
 no e = absurd (true≢false e)
-
-either : {P : Type 0} (t : Bool) → (t ≡ true → P) → (t ≡ false → P) → P
-either true f g = f refl
-either false f g = g refl
 
 -- ---- none of a list passes
 pub no-split : (us : List ℕ) (w : ℕ) (vs : List ℕ) → [] ≡ us ++ w ∷ vs → ⊥
