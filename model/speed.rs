@@ -118,6 +118,9 @@ pub fn run_once(workload: &str, way: &str) -> Option<()> {
     let (way, lesson): (Way, Lesson) = match way {
         "library" => (library_lesson, lesson),
         "tuned" => (tuned_lesson, lesson),
+        "drive" => (library_drive, lesson),
+        "test" => (library_test, lesson),
+        "figures" => (library_figures, lesson),
         "copy" => (library_copy, lesson),
         "exact" => (library_exact_copy, lesson),
         "never" => (library_mark, lesson.with_mark(never)),

@@ -1,12 +1,13 @@
--- How the code works N out: by the time that it lasts. The laws below say that it is N.
+-- How the code works N out, by the time that it lasts, and how it compares R with a way in metres, without working that out. The laws below say that
+-- both are the definitions'.
 -- Assumes nothing.
 use mathlib.Core.Bool.{Bool, true, false, _&&_, _||_}
 use mathlib.Core.Path.{_≡_, refl, sym, _∙_}
-use Prim.Native.Nat.{ℕ, _≤_}
-use lib.Dec.{eqb, ltb}
+use Prim.Native.Nat.{ℕ, _+_, _*_, _/_, _≤_}
+use lib.Dec.{eqb, leb, ltb}
 use native.Mathlib.Omega.{arith}
-use borrow.Author.Tests.{le-ltb, eqb-true}
-use Rattle.kit.specs.Pick.{pick, pick-true, pick-false, pick-le, and-l}
+use borrow.Author.Tests.{le-ltb, le-leb, lt-leb, ltb-true, ltb-false, eqb-true}
+use Rattle.kit.specs.Pick.{pick, pick-true, pick-false, pick-le, either, and-l}
 use Rattle.event.specs.WordLaws.{gap-le}
 use Rattle.car.specs.declared.Car.{Car}
 use Rattle.car.specs.Distance.{metres, secureDistance}
@@ -37,3 +38,10 @@ secure-following c e = rw e (go (ltb 200 (c .radar .lead)) (eqb (c .radar .lead)
     go true u = refl
     go false true = refl
     go false false = refl
+
+-- below a quotient, by products alone
+pub nearer-test : (range p : ℕ) → leb ((range + 1) * 360) p ≡ ltb range (p / 360)
+nearer-test range p =
+    either (ltb range (p / 360))
+    (λ t. let h = ltb-true range (p / 360) t in le-leb ((range + 1) * 360) p (omega arith) ∙ sym t)
+    (λ t. let h = ltb-false range (p / 360) t in lt-leb ((range + 1) * 360) p (omega arith) ∙ sym t)

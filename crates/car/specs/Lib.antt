@@ -11,6 +11,7 @@ pub mod Lesson
 pub mod Mark
 pub mod GoodLaws
 pub mod DistanceShape
+pub mod DistanceLaws
 pub mod AccelerationLaws
 pub mod AccelerationShapeLaws
 pub mod KeepLaws

@@ -1,18 +1,18 @@
 // Secure distance, "ahead", "close" and the two warnings (document 01, "Rules of each event").
 ghost use mathlib.Core.Path.{_≡_};
-ghost use Prim.Native.Nat.{_≤_};
-ghost use Rattle.kit.specs.Bounds.{speedCeiling};
+ghost use Prim.Native.Nat.{_*_, _≤_};
 ghost use Rattle.car.specs.DistanceShape.{following};
+ghost use Rattle.car.specs.DistanceLaws.{largestProduct};
 ghost use Rattle.car.specs.Distance.{metres, secureDistance, ahead, within, close, visual, acoustic};
 ghost use Rattle.car.specs.Standing.{Ranges};
 use crate::Car;
 
-// The way in metres at a speed, in a time of tenths of a second: worked in 64 bits.
+// The way in metres at a speed, in a time of tenths of a second. A good car's products are held by 32 bits.
 fn metres(tenths: u32, speed: u32) -> u32
-    requires { ⌜ (tenths ≤ 30) × (speed ≤ speedCeiling) ⌝ }
+    requires { ⌜ tenths * speed ≤ largestProduct ⌝ }
     ensures { λ r. ⌜ r ≡ metres tenths speed ⌝ }
 {
-    ((tenths as u64) * (speed as u64) / 360) as u32
+    tenths * speed / 360
 }
 
 impl Car {
@@ -66,7 +66,7 @@ impl Car {
         self.within(self.secure_distance())
     }
 
-    // A car ahead, nearer than the way in that many tenths of a second.
+    // A car ahead, nearer than the way in that many tenths of a second: R < p÷360 exactly when (R + 1)×360 ≤ p.
     fn nearer(self, tenths: u32) -> bool
         requires { ⌜ Ranges self × (tenths ≤ 30) ⌝ }
         ensures { λ r. ⌜ r ≡ within self (metres tenths (self .speed)) ⌝ }
@@ -74,7 +74,7 @@ impl Car {
         if !self.ahead() {
             return false;
         }
-        self.within(metres(tenths, self.speed))
+        (self.radar.range + 1) * 360 <= tenths * self.speed
     }
 
     pub(crate) fn visual(self) -> bool

@@ -1,7 +1,6 @@
 use Rattle.car.specs.Distance.{metres}
 use mathlib.Core.Path.{refl}
 use native.Mathlib.Omega.{arith}
-use native.Mathlib.Nat.{mul-le-mul}
 use Rattle.car.proofs.distance.metres.Statement.{statement}
 use Rattle.car.proofs.distance.metres.Tie as tie
 
@@ -10,6 +9,5 @@ unfolding metres
 metres-spec =
     tie.close
     (tie.spec
-    (λ c. omega (arith, mul-le-mul (c .pre .0) (c .pre .1)))
-    (λ c. omega (arith, mul-le-mul (c .pre .0) (c .pre .1)))
+    (λ c. omega (arith, c .pre))
     (λ c. refl))
