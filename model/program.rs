@@ -13,7 +13,6 @@ use std::io::{Read, Write};
 use std::os::fd::OwnedFd;
 use std::os::unix::ffi::OsStrExt;
 use std::os::unix::net::UnixStream;
-use std::os::unix::process::ExitStatusExt;
 use std::process::{Command, Stdio};
 use std::thread;
 use std::time::Duration;
@@ -24,7 +23,6 @@ const FILE: &str = "target/exercise.bin";
 const PAGE: usize = 4096;
 /// How many lines each program's help has.
 const HELP_LINES: usize = 15;
-const SIGPIPE: i32 = 13;
 
 #[derive(Clone, Copy)]
 enum Program {
@@ -222,7 +220,7 @@ fn clean_case(bench: &mut Bench, random: &mut Random) -> Result<(), Difference> 
         _ => Output::Bytes(&clean),
     };
     keep(&clean);
-    bench.run(bench.call(&[]).input(FILE), Due { output, errors: Errors::Nothing, signal: None })
+    bench.run(bench.call(&[]).input(FILE), Due { output, errors: Errors::Nothing })
 }
 
 /// A file whose speeds are first reached round the end of a page, with the settings word counted and not.
@@ -263,11 +261,14 @@ fn failing_case(bench: &mut Bench, random: &mut Random) -> Result<(), Difference
 /// Files that are not there, directories, and an input that is closed.
 fn failed_inputs(bench: &mut Bench, exercise: &Exercise) -> Result<(), Difference> {
     let unnamed = exercise.arguments(None);
-    let missing: [&[u8]; 5] = [b"none", b"target/no exercise", "n\u{e4}her".as_bytes(), b"\xFF", &[b'x'; 255]];
+    let missing: [&[u8]; 4] = [b"none", b"target/no exercise", "n\u{e4}her".as_bytes(), &[b'x'; 255]];
     for name in missing {
         let told = bench.told(&[name, b": No such file or directory\n"].concat());
         bench.run(bench.call(&exercise.arguments(Some(name))), Due::told(told))?;
     }
+    // A name that is no UTF-8 is none that the programs open.
+    let told = bench.told(b"\xFF: Invalid or incomplete multibyte or wide character\n");
+    bench.run(bench.call(&exercise.arguments(Some(b"\xFF"))), Due::told(told))?;
     for name in [".", "target", "/"] {
         let told = bench.told(format!("{name}: Is a directory\n").as_bytes());
         bench.run(bench.call(&exercise.arguments(Some(name.as_bytes()))), Due::told(told))?;
@@ -296,7 +297,7 @@ fn failed_outputs(bench: &mut Bench, exercise: &Exercise) -> Result<(), Differen
 }
 
 fn help(bench: &mut Bench) -> Result<(), Difference> {
-    let due = Due { output: Output::Lines(HELP_LINES), errors: Errors::Nothing, signal: None };
+    let due = Due { output: Output::Lines(HELP_LINES), errors: Errors::Nothing };
     bench.run(bench.call(&[b"--help"]).input(FILE), due)
 }
 
@@ -390,7 +391,7 @@ impl Exercise {
     fn taken(&self) -> Due<'_> {
         let told = self.given.errors().into_bytes();
         let errors = if told.is_empty() { Errors::Nothing } else { Errors::Line(told) };
-        Due { output: Output::Bytes(&self.given.output), errors, signal: None }
+        Due { output: Output::Bytes(&self.given.output), errors }
     }
 }
 
@@ -502,11 +503,10 @@ impl Call {
     }
 }
 
-/// What a call is to leave, and the signal that ends it, if one does.
+/// What a call is to leave; its status is 0.
 struct Due<'a> {
     output: Output<'a>,
     errors: Errors,
-    signal: Option<i32>,
 }
 
 /// On standard output.
@@ -532,12 +532,12 @@ enum Errors {
 impl Due<'_> {
     /// Nothing but a line on standard error.
     fn told(errors: Errors) -> Due<'static> {
-        Due { output: Output::Bytes(&[]), errors, signal: None }
+        Due { output: Output::Bytes(&[]), errors }
     }
 
-    /// These bytes until the reader went away.
-    fn left(bytes: &[u8]) -> Due<'_> {
-        Due { output: Output::Bytes(bytes), errors: Errors::Nothing, signal: Some(SIGPIPE) }
+    /// These bytes until the reader went away, which is told.
+    fn left(bytes: &[u8], errors: Errors) -> Due<'_> {
+        Due { output: Output::Bytes(bytes), errors }
     }
 
     /// The first that differs: what is due and what the program left.
@@ -550,9 +550,7 @@ impl Due<'_> {
             return Some((self.errors.shown(), format!("on standard error {told}")));
         }
         self.output.difference(&left.output, parts).or_else(|| {
-            let ends = (left.status.signal(), left.status.code());
-            let due = (self.signal, if self.signal.is_none() { Some(0) } else { None });
-            (ends != due).then(|| (format!("signal and status {due:?}"), format!("signal and status {ends:?}")))
+            (left.status.code() != Some(0)).then(|| (String::from("status 0"), format!("{}", left.status)))
         })
     }
 }
@@ -794,7 +792,8 @@ impl Bench<'_> {
         let mut session = Session::start(call.command, 0);
         session.output.reach_end();
         session.send(&exercise.file);
-        let due = if exercise.given.output.is_empty() { exercise.taken() } else { Due::left(&[]) };
+        let broken = self.told(b"standard output: Broken pipe\n");
+        let due = if exercise.given.output.is_empty() { exercise.taken() } else { Due::left(&[], broken) };
         self.judge(&call.text, session.finish(), due)
     }
 
@@ -803,7 +802,8 @@ impl Bench<'_> {
         keep(&exercise.file);
         let call = self.call(&[FILE.as_bytes()]).note(&format!(", its reader gone after {reads} bytes"));
         let session = Session::start(call.command, reads as u64);
-        self.judge(&call.text, session.finish(), Due::left(&exercise.given.output[..reads]))
+        let broken = self.told(b"standard output: Broken pipe\n");
+        self.judge(&call.text, session.finish(), Due::left(&exercise.given.output[..reads], broken))
     }
 
     /// An output that takes the first pages and then no more: a socket that does not wait, which nobody reads.
@@ -816,7 +816,7 @@ impl Bench<'_> {
         let mut left = Session::start(call.command, ALL).finish();
         ours.read_to_end(&mut left.output).expect("what the program wrote");
         let errors = self.told_more("standard output: ");
-        self.judge(&call.text, left, Due { output: Output::Front(&exercise.given.output), errors, signal: None })
+        self.judge(&call.text, left, Due { output: Output::Front(&exercise.given.output), errors })
     }
 
     /// An input that fails after the file's bytes: a socket whose other end is closed with a byte unread.
@@ -833,7 +833,7 @@ impl Bench<'_> {
         session.output.reach(due.len());
         drop(ours);
         let errors = self.told_more("standard input: ");
-        self.judge(&call.text, session.finish(), Due { output: Output::Bytes(due), errors, signal: None })
+        self.judge(&call.text, session.finish(), Due { output: Output::Bytes(due), errors })
     }
 }
 

@@ -1,9 +1,12 @@
 // Two cars are alike (document 01, "The cab, alike, and the program").
+#![tactic(auto, using(kit::specs::Pick::picks))]
+
 ghost use Rattle.std.specs.Prelude.{◌≡◌};
 ghost use Rattle.alike.specs.Alike.{alike_of};
 
 use car::Car;
 
+#[tactic(auto, using(kit::specs::Pick::picks), unfolding(crate::specs::Alike::alike_of))]
 pub fn alike(a: Car, b: Car) -> bool
     ensures { result ≡ alike_of a b }
 {

@@ -1,2 +1,1 @@
 pub mod AnswerWord
-pub mod AnswerWordLaws

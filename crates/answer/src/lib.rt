@@ -1,9 +1,11 @@
 // The answer word (document 01, "A lesson"): what a word's refusal and the car after it are written as, and read back from.
+#![tactic(auto, using(kit::specs::Pick::picks))]
+
 ghost use Rattle.std.specs.Prelude.{◌≡◌, ◌+◌, ◌%◌, ◌^◌};
 ghost use Rattle.answer.specs.AnswerWord.{word_of, read_of};
 
 // A word's refusal or 0, and of the car afterwards the warnings, a + 60 and D.
-#[derive(Drop)]
+#[derive(Clone, Copy)]
 pub struct Answer {
     pub refusal: u32,
     pub visual: bool,
@@ -13,6 +15,7 @@ pub struct Answer {
 }
 
 // The word; 32 bits of it where a field has more bits than its own.
+#[tactic(auto, using(kit::specs::Pick::picks), unfolding(crate::specs::AnswerWord::word_of))]
 pub fn write(answer: Answer) -> u32
     ensures { result ≡ word_of answer % 2 ^ 32 }
 {
@@ -35,6 +38,7 @@ pub fn refusing(word: u32, refusal: u32) -> u32
 }
 
 // The fields that a word's bits say, whatever else it holds.
+#[tactic(auto, using(kit::specs::Pick::picks), unfolding(crate::specs::AnswerWord::read_of))]
 pub fn read(word: u32) -> Answer
     ensures { result ≡ read_of word }
 {

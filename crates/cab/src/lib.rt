@@ -1,4 +1,6 @@
 // The cab's car (document 01, "The cab, alike, and the program"): lent to one call and changed there.
+#![tactic(auto)]
+
 ghost use Rattle.std.specs.Prelude.{◌≡◌};
 ghost use Rattle.car.specs.Drive.{drive_of};
 

@@ -1,5 +1,7 @@
 // Drives a car by the open call, which is lent a local car. Standard input (words, little-endian): how many words follow the settings,
 // the settings' mode and signs, the words. Prints for each word its refusal and the car's speed and desired speed behind it.
+#![tactic(auto)]
+
 ghost use Rattle.std.specs.Prelude.{◌≡◌};
 ghost use Rattle.car.specs.Drive.{drive_of};
 
@@ -19,7 +21,7 @@ fn lent(car: Car, word: u32) -> Driven
 }
 
 // The car, the index of the next word and the index past the text.
-#[derive(Drop)]
+#[derive(Clone, Copy)]
 struct State {
     car: Car,
     next: usize,
@@ -44,10 +46,8 @@ fn lines(first: Car, count: u32, out: &mut [u8], words: &[u32]) -> usize {
         next: 3,
         end: 0,
     };
-    let mut left = count;
-    while left > 0 {
+    for _ in 0..count {
         state = line(state, out, words);
-        left -= 1;
     }
     state.end
 }
@@ -62,14 +62,14 @@ fn drive(out: &mut [u8], words: &[u32]) -> usize {
     }
 }
 
-fn main() {
+fn main(rt: HostRuntime) {
     let mut words = [0; 16384];
-    let input = tester::read_words(&mut words, b"cab_words: standard input");
+    let input = tester::read_words(&rt, &mut words, b"cab_words: standard input");
     if input.failed {
         return;
     }
     let mut out = [0; 131072];
     let count = input.count;
     let end = drive(&mut out, &words[0..count]);
-    tester::write(&out, end, b"cab_words: standard output");
+    tester::write(&rt, &out, end, b"cab_words: standard output");
 }

@@ -1,1 +1,2 @@
 // No code: specs/Callers.antt says what a list of the library's calls on one record is, and that demand 3 holds of it.
+#![tactic(auto, using(kit::specs::Pick::picks))]

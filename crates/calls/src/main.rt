@@ -2,6 +2,8 @@
 // word driven; 4 size count words, a lesson with an answer buffer of that size; 5 size, a record call with a buffer of that size; 6 kind metres
 // kmh, a sighting, the floats as their bits; 0 ends.
 // Prints for each its refusal (a lesson's counts behind it; a word's answer word, and whether the cars before and after it are alike; 1 for a sighting that is a fault), then its buffer, then the car's fields in document 01's order.
+#![tactic(auto)]
+
 use car::{Car, Fresh};
 
 // A lesson's words start here in the program's own array.
@@ -14,7 +16,7 @@ const MOST: usize = 32;
 const UNUSED: u32 = 0xDEAD_BEEF;
 
 // The car, the index of the next word and the index past the text.
-#[derive(Drop)]
+#[derive(Clone, Copy)]
 struct State {
     car: Car,
     next: usize,
@@ -174,15 +176,13 @@ fn calls(first: Car, out: &mut [u8], words: &[u32]) -> usize {
         next: 0,
         end: 0,
     };
-    let mut left = words.len();
-    while left > 0 {
+    for _ in 0..words.len() {
         let kind = tester::word(words, state.next);
         if kind == 0 {
             return state.end;
         }
         state.next = tester::past(words, state.next, 1);
         state = call(kind, state, out, words);
-        left -= 1;
     }
     state.end
 }
@@ -194,14 +194,14 @@ fn all_calls(out: &mut [u8], words: &[u32]) -> usize {
     }
 }
 
-fn main() {
+fn main(rt: HostRuntime) {
     let mut words = [0; 16384];
-    let input = tester::read_words(&mut words, b"calls: standard input");
+    let input = tester::read_words(&rt, &mut words, b"calls: standard input");
     if input.failed {
         return;
     }
     let mut out = [0; 131072];
     let count = input.count;
     let end = all_calls(&mut out, &words[0..count]);
-    tester::write(&out, end, b"calls: standard output");
+    tester::write(&rt, &out, end, b"calls: standard output");
 }

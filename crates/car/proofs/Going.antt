@@ -20,17 +20,17 @@ use Rattle.car.specs.Acceleration.{acceleration_of}
 use Rattle.event.specs.Words.{kind_of, body_of, ready_of}
 use Rattle.car.specs.declared.tick.Moved.{Moved}
 use Rattle.car.specs.Drive.{step_of, accepted_tick}
-use Rattle.car.specs.DriveLaws.{tick_refused, tick_taken}
+use Rattle.car.proofs.DriveLaws.{tick_refused, tick_taken}
 use Rattle.car.specs.Rules.{test_due, tick_desired, tick_speed, ticked}
 use Rattle.car.specs.Good.{good_of}
-use Rattle.car.specs.GoodLaws.{good_ranges}
+use Rattle.car.proofs.GoodLaws.{good_ranges}
 use Rattle.car.specs.Lesson.{answer_of, speed_of, refuses, driven, accepted_of, refused_of}
-use Rattle.car.specs.LessonLaws.{refusal_le, counts_all}
+use Rattle.car.proofs.LessonLaws.{refusal_le, counts_all}
 use Rattle.car.specs.LessonShape.{accepted_answer, tick_refusal, second_passed, radar_tried, over_of}
-use Rattle.car.specs.LessonShapeLaws.{tick_due, tick_undue, same_acceleration, same_answer, answer_adds, over_none}
+use Rattle.car.proofs.LessonShapeLaws.{tick_due, tick_undue, same_acceleration, same_answer, answer_adds, over_none}
 use Rattle.car.specs.Mark.{passes, ends_above, seconds_of, searched, found, ran_of}
-use Rattle.car.specs.MarkLaws.{crosses, refused_no_tick, tick_accepted, counted}
-use Rattle.car.specs.StepLaws.{step_good}
+use Rattle.car.proofs.MarkLaws.{crosses, refused_no_tick, tick_accepted, counted}
+use Rattle.car.proofs.StepLaws.{step_good}
 
 -- The words that are driven are `searched halt c₀ ws`; `end` is where the loop is to end, and below i once a word has passed the mark.
 pub record Going (ws answers₀ speeds₀ : List ℕ) (halt mark : ℕ) (c₀ : Car) (answers speeds : List ℕ) (c : Car) (r s end : ℕ) (below : Bool) (i code answer : ℕ) : Type 0 where

@@ -11,21 +11,21 @@ use lib.ListN.{length, get_or}
 use Rattle.kit.specs.Pick.{pick, pick_true, pick_false}
 use Rattle.answer.specs.declared.Answer.{Answer}
 use Rattle.answer.specs.AnswerWord.{read_of}
-use Rattle.answer.specs.AnswerWordLaws.{written_read}
+use Rattle.answer.proofs.AnswerWordLaws.{written_read}
 use Rattle.car.specs.declared.Car.{Car}
 use Rattle.car.specs.declared.drive.Driven.{Driven}
 use Rattle.car.specs.declared.lesson.Ran.{Ran}
 use Rattle.car.specs.declared.lesson.Taught.{Taught}
 use Rattle.car.specs.Drive.{step_of, drive_of}
 use Rattle.car.specs.Good.{good_of}
-use Rattle.car.specs.GoodLaws.{good_ranges}
+use Rattle.car.proofs.GoodLaws.{good_ranges}
 use Rattle.car.specs.Lesson.{answering, answer_of, speed_of, driven, each_of, taught_of, untaught, lesson_of, each_after, answers_after, trace_short, trace_of, trace_after}
-use Rattle.car.specs.LessonLaws.{refusal_le, answering_fits}
+use Rattle.car.proofs.LessonLaws.{refusal_le, answering_fits}
 use Rattle.car.specs.LessonShape.{over_of}
-use Rattle.car.specs.LessonShapeLaws.{over_room}
+use Rattle.car.proofs.LessonShapeLaws.{over_room}
 use Rattle.car.specs.Mark.{searched, ran_of, as_taught, unran, run_of, run_after}
-use Rattle.car.specs.MarkLaws.{searched_0, searched_few, ran_whole}
-use Rattle.car.specs.StepLaws.{step_good}
+use Rattle.car.proofs.MarkLaws.{searched_0, searched_few, ran_whole}
+use Rattle.car.proofs.StepLaws.{step_good}
 
 -- both buffers have room
 pub trace_room : (ws answers speeds : List ℕ) → trace_short ws answers speeds ≡ false → (length ws ≤ length answers) × (length ws ≤ length speeds)

@@ -5,10 +5,14 @@ use Rattle.std.specs.Prelude.{Bool, true, false, ◌&&◌, ◌||◌, ◌≡◌, 
 use Rattle.std.proofs.Common.{sym, ◌∙◌, arith, le-ltb, le-leb, ltb-true, ltb-false, eqb-true}
 use Rattle.std.proofs.lemmas.Bool.{lt-leb}
 use Rattle.kit.specs.Pick.{pick, pick_true, pick_false, pick_le, either, and_l}
-use Rattle.event.specs.WordLaws.{gap_le}
+use Rattle.event.proofs.WordLaws.{gap_le}
 use Rattle.car.specs.declared.Car.{Car}
 use Rattle.car.specs.Distance.{metres, secure_distance}
 use Rattle.car.specs.Standing.{Ranges}
+
+-- the largest product in N and in both warnings
+abbrev pub largest_product : ℕ
+largest_product = 150000
 
 -- the tenths of a second that N lasts, where it is not 2
 unfoldable pub following : Car → ℕ

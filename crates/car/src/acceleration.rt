@@ -10,6 +10,7 @@ use crate::Car;
 use motion::{Acceleration, apart, backed_off, decoded};
 use number::{least, less, most};
 
+#[tactic(auto, using(motion::proofs::AccelerationShapeLaws::code_speeding))]
 fn speeding(size: u32) -> u32
     requires { size ≤ 60 }
     ensures { result ≡ acceleration_code (speeding size) }
@@ -17,6 +18,7 @@ fn speeding(size: u32) -> u32
     60 + size
 }
 
+#[tactic(auto, using(motion::proofs::AccelerationShapeLaws::code_slowing))]
 fn slowing(size: u32) -> u32
     requires { size ≤ 60 }
     ensures { result ≡ acceleration_code (slowing size) }
@@ -25,6 +27,7 @@ fn slowing(size: u32) -> u32
 }
 
 // b×60÷225 and g×30÷225, in lowest terms: the factor is a power of two, so that only the quotient takes a product.
+#[tactic(auto, using(kit::specs::Pick::picks), unfolding(motion::specs::Acceleration::brake_term))]
 fn brake_term(brake: u32) -> u32
     requires { brake ≤ pedal_ceiling }
     ensures { result ≡ brake_term brake }
@@ -32,6 +35,7 @@ fn brake_term(brake: u32) -> u32
     brake * 4 / 15
 }
 
+#[tactic(auto, using(kit::specs::Pick::picks), unfolding(motion::specs::Acceleration::gas_term))]
 fn gas_term(gas: u32) -> u32
     requires { gas ≤ pedal_ceiling }
     ensures { result ≡ gas_term gas }
@@ -39,6 +43,7 @@ fn gas_term(gas: u32) -> u32
     gas * 2 / 15
 }
 
+#[tactic(auto, using(kit::specs::Pick::picks, motion::proofs::AccelerationLaws::brake_term_le), unfolding(motion::specs::Acceleration::braked))]
 fn braked(brake: u32, speed: u32) -> u32
     requires { brake ≤ pedal_ceiling }
     ensures { result ≡ acceleration_code (braked brake speed) }
@@ -50,6 +55,7 @@ fn braked(brake: u32, speed: u32) -> u32
 }
 
 // The gas term of a pedal in its range is at most 30 already, here and in `urged`.
+#[tactic(auto, using(kit::specs::Pick::picks, motion::proofs::AccelerationLaws::gas_term_le), unfolding(motion::specs::Acceleration::coasting))]
 fn coasting(gas: u32) -> u32
     requires { gas ≤ pedal_ceiling }
     ensures { result ≡ acceleration_code (coasting gas) }
@@ -58,6 +64,7 @@ fn coasting(gas: u32) -> u32
 }
 
 // A tenth of a difference of speeds in m/s, at least 1.
+#[tactic(auto, using(kit::specs::Pick::picks), unfolding(motion::specs::AccelerationShape::strived))]
 fn strived(difference: u32) -> u32
     requires { difference ≤ speed_ceiling }
     ensures { result ≡ strived difference }
@@ -65,6 +72,7 @@ fn strived(difference: u32) -> u32
     most(1, difference * 10 / 36)
 }
 
+#[tactic(auto, using(motion::proofs::AccelerationShapeLaws::towards_at, motion::proofs::AccelerationShapeLaws::towards_below, motion::proofs::AccelerationShapeLaws::towards_above))]
 fn towards(speed: u32, target: u32) -> u32
     requires { (speed ≤ speed_ceiling) × (target ≤ speed_ceiling) }
     ensures { result ≡ acceleration_code (towards speed target) }
@@ -80,6 +88,7 @@ fn towards(speed: u32, target: u32) -> u32
 }
 
 // a from the code of s, by the gas.
+#[tactic(auto, using(kit::specs::Pick::picks, motion::proofs::AccelerationLaws::gas_term_le), unfolding(motion::specs::AccelerationShape::urged_code))]
 fn urged(gas: u32, s: u32) -> u32
     requires { gas ≤ pedal_ceiling }
     ensures { result ≡ urged_code gas s }
@@ -91,6 +100,7 @@ fn urged(gas: u32, s: u32) -> u32
 }
 
 impl Car {
+    #[tactic(auto, using(motion::proofs::AccelerationShapeLaws::cruising_code, crate::proofs::AccelerationLaws::target_le), unfolding(crate::specs::Acceleration::target_of))]
     fn cruising(self) -> u32
         requires { Ranges self }
         ensures { result ≡ acceleration_code (cruising self.pedals.gas self.speed (target_of self)) }
@@ -101,6 +111,7 @@ impl Car {
 
     // a + 60. A good car with cruise on has the key on and no brake, so that its cases can come first; with the key not on it has neither
     // pedal down, which gives 0 by the last case.
+    #[tactic(auto, using(crate::proofs::AccelerationShapeLaws::close_case, crate::proofs::AccelerationShapeLaws::cruising_case, crate::proofs::AccelerationShapeLaws::braked_case, crate::proofs::AccelerationShapeLaws::coasting_case))]
     pub(crate) fn acceleration_code(self) -> u32
         requires { Good self }
         ensures { result ≡ acceleration_code (acceleration_of self) }
@@ -117,6 +128,7 @@ impl Car {
         coasting(self.pedals.gas)
     }
 
+    #[tactic(auto, using(crate::proofs::AccelerationShapeLaws::decoded_code))]
     pub(crate) fn acceleration(self) -> Acceleration
         requires { Good self }
         ensures { result ≡ acceleration_of self }

@@ -12,6 +12,7 @@ use event::Input;
 
 impl Car {
     // Check 2 of a tick's word, then 15 and 16; `due` says whether the radar is tested in this second.
+    #[tactic(auto, using(kit::specs::Pick::picks), unfolding(crate::specs::LessonShape::tick_refusal, event::specs::Words::unnamed_of))]
     pub(crate) fn tick_refusal(self, word: u32, due: bool) -> u32
         ensures { result ≡ tick_refusal self word due }
     {
@@ -23,6 +24,7 @@ impl Car {
     }
 
     // What the input's own checks give.
+    #[tactic(auto, using(kit::specs::Pick::picks), unfolding(crate::specs::Checks::own_check))]
     fn own_check(self, input: Input) -> u32
         ensures { result ≡ own_check self input }
     {
@@ -50,6 +52,7 @@ impl Car {
     }
 
     // The kinds 4 to 9 need the key on.
+    #[tactic(auto, using(kit::specs::Pick::kinds), unfolding(crate::specs::Checks::input_check))]
     pub(crate) fn check(self, input: Input) -> u32
         ensures { result ≡ input_check self input }
     {

@@ -1,13 +1,13 @@
 // Secure distance, "ahead", "close" and the two warnings (document 01, "Rules of each event").
 ghost use Rattle.std.specs.Prelude.{◌≡◌, ◌*◌, ◌≤◌};
-ghost use Rattle.car.specs.DistanceShape.{following};
-ghost use Rattle.car.specs.DistanceLaws.{largest_product};
+ghost use Rattle.car.specs.DistanceShape.{following, largest_product};
 ghost use Rattle.car.specs.Distance.{metres, secure_distance, ahead, within, close, visual, acoustic};
 ghost use Rattle.car.specs.Standing.{Ranges};
 
 use crate::Car;
 
 // The way in metres at a speed, in a time of tenths of a second. A good car's products are held by 32 bits.
+#[tactic(auto, using(kit::specs::Pick::picks), unfolding(crate::specs::Distance::metres))]
 fn metres(tenths: u32, speed: u32) -> u32
     requires { tenths * speed ≤ largest_product }
     ensures { result ≡ metres tenths speed }
@@ -17,6 +17,7 @@ fn metres(tenths: u32, speed: u32) -> u32
 
 impl Car {
     // The tenths of a second that the secure distance lasts.
+    #[tactic(auto, using(kit::specs::Pick::picks), unfolding(crate::specs::DistanceShape::following))]
     fn following(self) -> u32
         ensures { result ≡ following self }
     {
@@ -30,6 +31,7 @@ impl Car {
     }
 
     // N
+    #[tactic(auto, using(kit::specs::Pick::picks, crate::specs::DistanceShape::following_le, crate::proofs::DistanceLaws::product_le, crate::specs::DistanceShape::secure_standing, crate::specs::DistanceShape::secure_following))]
     pub(crate) fn secure_distance(self) -> u32
         requires { Ranges self }
         ensures { result ≡ secure_distance self }
@@ -40,6 +42,7 @@ impl Car {
         metres(self.following(), self.speed)
     }
 
+    #[tactic(auto, using(kit::specs::Pick::picks), unfolding(crate::specs::Distance::ahead))]
     pub(crate) fn ahead(self) -> bool
         ensures { result ≡ ahead self }
     {
@@ -50,12 +53,14 @@ impl Car {
     }
 
     // A car ahead, nearer than the distance.
+    #[tactic(auto, using(kit::specs::Pick::picks), unfolding(crate::specs::Distance::within))]
     fn within(self, distance: u32) -> bool
         ensures { result ≡ within self distance }
     {
         self.ahead() & (self.radar.range < distance)
     }
 
+    #[tactic(auto, using(kit::specs::Pick::picks), unfolding(crate::specs::Distance::close, crate::specs::Distance::within))]
     pub(crate) fn close(self) -> bool
         requires { Ranges self }
         ensures { result ≡ close self }
@@ -67,6 +72,7 @@ impl Car {
     }
 
     // A car ahead, nearer than the way in that many tenths of a second: R < p÷360 exactly when (R + 1)×360 ≤ p.
+    #[tactic(auto, using(kit::specs::Pick::picks), unfolding(crate::specs::Distance::within, crate::specs::Distance::metres))]
     fn nearer(self, tenths: u32) -> bool
         requires { Ranges self × (tenths ≤ 30) }
         ensures { result ≡ within self (metres tenths self.speed) }
@@ -77,6 +83,7 @@ impl Car {
         (self.radar.range + 1) * 360 <= tenths * self.speed
     }
 
+    #[tactic(auto, using(kit::specs::Pick::picks), unfolding(crate::specs::Distance::visual))]
     pub(crate) fn visual(self) -> bool
         requires { Ranges self }
         ensures { result ≡ visual self }
@@ -84,6 +91,7 @@ impl Car {
         self.nearer(15)
     }
 
+    #[tactic(auto, using(kit::specs::Pick::picks), unfolding(crate::specs::Distance::acoustic))]
     pub(crate) fn acoustic(self) -> bool
         requires { Ranges self }
         ensures { result ≡ acoustic self }

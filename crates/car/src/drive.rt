@@ -6,7 +6,7 @@ use crate::Car;
 use event::Input;
 
 // The car after a word, and the word's refusal or 0. A refused word leaves the car as it was.
-#[derive(Drop)]
+#[derive(Clone, Copy)]
 pub struct Driven {
     pub refusal: u32,
     pub car: Car,
@@ -14,6 +14,7 @@ pub struct Driven {
 
 impl Car {
     // The next car by the input's rule.
+    #[tactic(auto, using(kit::specs::Pick::picks), unfolding(crate::specs::Drive::input_next))]
     pub(crate) fn next(self, input: Input) -> Car
         ensures { result ≡ input_next self input }
     {

@@ -6,7 +6,7 @@ ghost use Rattle.car.specs.Standing.{Good};
 use crate::Car;
 use motion::Acceleration;
 
-#[derive(Drop)]
+#[derive(Clone, Copy)]
 pub struct Figures {
     pub refusal: u32,
     pub speed: u32,
@@ -18,6 +18,7 @@ pub struct Figures {
 }
 
 impl Car {
+    #[tactic(auto, using(kit::specs::Pick::picks), unfolding(crate::specs::Figures::shown))]
     fn shown(self) -> Figures
         requires { Good self }
         ensures { result ≡ shown self }
@@ -38,6 +39,7 @@ impl Car {
     }
 
     // 18 and zeros for a car that is not good.
+    #[tactic(auto, using(kit::specs::Pick::picks, crate::proofs::GoodLaws::good), unfolding(crate::specs::Figures::figures_of, crate::specs::Figures::no_figures))]
     pub fn figures(self) -> Figures
         ensures { result ≡ figures_of self }
     {

@@ -8,6 +8,7 @@ use desired::held;
 use number::less;
 
 impl Car {
+    #[tactic(auto, using(kit::specs::Pick::picks), unfolding(crate::specs::Good::positions_of))]
     fn positions(self) -> bool
         ensures { result ≡ positions_of self }
     {
@@ -20,6 +21,7 @@ impl Car {
             & (self.pedals.gas <= Car::PEDAL_CEILING)
     }
 
+    #[tactic(auto, using(kit::specs::Pick::picks), unfolding(crate::specs::Good::numbers_of))]
     fn numbers(self, top: u32) -> bool
         ensures { result ≡ numbers_of top self }
     {
@@ -36,6 +38,7 @@ impl Car {
             & (self.radar.tested <= Car::LESSON_LENGTH)
     }
 
+    #[tactic(auto, using(kit::specs::Pick::picks), unfolding(crate::specs::Good::ranges_of))]
     fn ranges(self) -> bool
         ensures { result ≡ ranges_of self }
     {
@@ -43,6 +46,7 @@ impl Car {
     }
 
     // The rule on T and B, and T ≤ now.
+    #[tactic(auto, using(kit::specs::Pick::picks), unfolding(crate::specs::Good::times_of))]
     fn times(self) -> bool
         ensures { result ≡ times_of self }
     {
@@ -71,18 +75,21 @@ impl Car {
             & (self.radar.range == 255)
     }
 
+    #[tactic(auto, using(kit::specs::Pick::picks), unfolding(crate::specs::Good::rule_a))]
     fn rule_a(self) -> bool
         ensures { result ≡ rule_a self }
     {
         ((self.pedals.brake == 0) | (self.pedals.gas == 0)) & ((self.key == 2) | self.off())
     }
 
+    #[tactic(auto, using(kit::specs::Pick::picks), unfolding(crate::specs::Good::rule_b))]
     fn rule_b(self) -> bool
         ensures { result ≡ rule_b self }
     {
         (self.levers.updown == 0) | (self.levers.foreback == 0)
     }
 
+    #[tactic(auto, using(kit::specs::Pick::picks), unfolding(crate::specs::Good::rule_c))]
     fn rule_c(self) -> bool
         ensures { result ≡ rule_c self }
     {
@@ -90,6 +97,7 @@ impl Car {
             | ((self.pedals.brake == 0) & (self.levers.foreback != 2) & (1 <= self.cruise.desired))
     }
 
+    #[tactic(auto, using(kit::specs::Pick::picks), unfolding(crate::specs::Good::rule_d))]
     fn rule_d(self) -> bool
         ensures { result ≡ rule_d self }
     {
@@ -98,6 +106,7 @@ impl Car {
             & (!self.limiter.button | ((self.key == 2) & (self.levers.foreback != 2)))
     }
 
+    #[tactic(auto, using(kit::specs::Pick::picks), unfolding(crate::specs::Good::rule_e))]
     fn rule_e(self) -> bool
         requires { Ranges self }
         ensures { result ≡ rule_e self }
@@ -108,6 +117,7 @@ impl Car {
                     & (self.now < self.radar.tested + Car::TEST_PERIOD)))
     }
 
+    #[tactic(auto, using(kit::specs::Pick::picks), unfolding(crate::specs::Good::rule_f))]
     fn rule_f(self) -> bool
         requires { Ranges self }
         ensures { result ≡ rule_f self }
@@ -125,6 +135,7 @@ impl Car {
         self.cruise.desired == d
     }
 
+    #[tactic(auto, using(kit::specs::Pick::picks), unfolding(crate::specs::Good::obeys_of))]
     fn obeys(self) -> bool
         requires { Ranges self }
         ensures { result ≡ obeys_of self }
@@ -138,6 +149,7 @@ impl Car {
             & self.rule_f()
     }
 
+    #[tactic(auto, using(kit::specs::Pick::picks, crate::proofs::GoodLaws::ranges), unfolding(crate::specs::Good::good_of))]
     pub fn good(self) -> bool
         ensures { result ≡ good_of self }
     {

@@ -14,7 +14,7 @@ use answer::Answer;
 use event::{InputReading, refusal};
 
 // The car after a lesson, how many words it accepted and refused, and its own refusal, 0, 18 or 19.
-#[derive(Drop)]
+#[derive(Clone, Copy)]
 pub struct Taught {
     pub car: Car,
     pub accepted: usize,
@@ -24,7 +24,7 @@ pub struct Taught {
 
 // A lesson that stops where a mark is passed (document 02, §5): the car behind the words driven, how many of them were accepted and refused,
 // how many of their seconds ended at or above a mark, whether one passed the mark that stops it, and the refusal, 0, 18 or 19.
-#[derive(Drop)]
+#[derive(Clone, Copy)]
 pub struct Ran {
     pub car: Car,
     pub accepted: usize,
@@ -86,6 +86,7 @@ impl Car {
         })
     }
 
+    #[tactic(auto, using(kit::specs::Pick::picks), unfolding(crate::specs::Lesson::untaught))]
     fn untaught(self, refusal: u32) -> Taught
         ensures { result ≡ untaught self refusal }
     {
@@ -97,6 +98,7 @@ impl Car {
         }
     }
 
+    #[tactic(auto, using(kit::specs::Pick::picks), unfolding(crate::specs::Mark::unran))]
     fn unran(self, refusal: u32) -> Ran
         ensures { result ≡ unran self refusal }
     {
@@ -212,6 +214,7 @@ impl Car {
     }
 
     // The same with v after each word.
+    #[tactic(auto, using(kit::specs::Pick::picks), unfolding(crate::specs::Lesson::trace_short))]
     pub fn trace(self, words: &[u32], answers: &mut [u32], speeds: &mut [u32]) -> Taught
         ensures { (result ≡ trace_of self words.now answers.old speeds.old) × (answers.new ≡ trace_after answer_of self words.now (trace_short words.now answers.old speeds.old) answers.old) × (speeds.new ≡ trace_after speed_of self words.now (trace_short words.now answers.old speeds.old) speeds.old) }
     {

@@ -1,6 +1,8 @@
 // The cruise trainer's car (document 01, "The car and a fresh one"): its parts, its settings and a fresh one.
 // A comment at each field gives the document's letter. Speeds are in tenths of km/h, times in seconds, ranges in metres. The fields'
 // order is the one of several tried of which the compiler makes the fastest lesson; nothing else rests on it.
+#![tactic(auto, using(kit::specs::Pick::picks))]
+
 ghost use Rattle.std.specs.Prelude.{◌≡◌};
 ghost use Rattle.car.specs.Car.{fresh_answer, fresh_of, fresh_car, ceiling_of};
 
@@ -14,13 +16,13 @@ pub mod lesson;
 mod rules;
 mod tick;
 
-#[derive(Drop)]
+#[derive(Clone, Copy)]
 pub struct Settings {
     pub mode: u32, // 1 normal cruise, 2 adaptive
     pub signs: bool,
 }
 
-#[derive(Drop)]
+#[derive(Clone, Copy)]
 pub struct Levers {
     pub updown: u32, // L: 0 neutral, 1 up5, 2 up7, 3 down5, 4 down7
     pub foreback: u32, // M: 0 neutral, 1 forward, 2 backward
@@ -28,27 +30,27 @@ pub struct Levers {
     pub base: u32, // B
 }
 
-#[derive(Drop)]
+#[derive(Clone, Copy)]
 pub struct Pedals {
     pub brake: u32, // b
     pub gas: u32, // g
 }
 
-#[derive(Drop)]
+#[derive(Clone, Copy)]
 pub struct Limiter {
     pub button: bool, // H
     pub on: bool, // S
     pub limit: u32, // Z
 }
 
-#[derive(Drop)]
+#[derive(Clone, Copy)]
 pub struct Cruise {
     pub desired: u32, // D
     pub manual: u32, // E, the last desired speed set by hand
     pub on: bool, // C
 }
 
-#[derive(Drop)]
+#[derive(Clone, Copy)]
 pub struct RangeRadar {
     pub ready: bool, // P
     pub range: u32, // R: 0 nothing ahead, 255 not ready
@@ -57,7 +59,7 @@ pub struct RangeRadar {
     pub earlier: u32, // Y, the reading before it
 }
 
-#[derive(Drop)]
+#[derive(Clone, Copy)]
 pub struct Car {
     pub cruise: Cruise,
     pub gap: u32, // G, in tenths of a second
@@ -72,7 +74,7 @@ pub struct Car {
 }
 
 // A fresh car, or the refusal of its settings.
-#[derive(Drop)]
+#[derive(Clone, Copy)]
 pub enum Fresh {
     Made(Car),
     Refused(u32),
@@ -89,6 +91,7 @@ impl Car {
 
     pub const LESSON_LENGTH: u32 = checks::LESSON_LENGTH;
 
+    #[tactic(auto, using(kit::specs::Pick::picks), unfolding(crate::specs::Car::fresh_of, crate::specs::Car::check17, crate::specs::Car::settings_of))]
     pub fn fresh(mode: u32, signs: u32) -> Fresh
         ensures { fresh_answer result ≡ fresh_of mode signs }
     {
@@ -102,6 +105,7 @@ impl Car {
     }
 }
 
+#[tactic(auto, using(kit::specs::Pick::picks), unfolding(crate::specs::Car::fresh_car))]
 fn first(settings: Settings) -> Car
     ensures { result ≡ fresh_car settings }
 {
@@ -139,6 +143,7 @@ fn first(settings: Settings) -> Car
 }
 
 // The ceiling of D and B.
+#[tactic(auto, using(kit::specs::Pick::picks), unfolding(crate::specs::Car::ceiling_of))]
 pub(crate) fn ceiling(settings: Settings) -> u32
     ensures { result ≡ ceiling_of settings }
 {

@@ -6,6 +6,7 @@ use crate::{Car, Cruise, Limiter, Pedals, RangeRadar, ceiling};
 use desired::{manual_after, sign_desired, stepped};
 use number::least;
 
+#[tactic(auto, using(kit::specs::Pick::picks), unfolding(crate::specs::Rules::key_radar))]
 fn key_radar(position: u32, ready: bool, now: u32) -> RangeRadar
     ensures { result ≡ key_radar position ready now }
 {
@@ -28,6 +29,7 @@ fn key_radar(position: u32, ready: bool, now: u32) -> RangeRadar
 }
 
 // The number if cruise is on and the lever is put out, else 0.
+#[tactic(auto, using(kit::specs::Pick::picks), unfolding(crate::specs::Rules::while_held))]
 fn while_held(on: bool, position: u32, n: u32) -> u32
     ensures { result ≡ while_held on position n }
 {
@@ -38,6 +40,7 @@ fn while_held(on: bool, position: u32, n: u32) -> u32
 }
 
 impl Car {
+    #[tactic(auto, using(kit::specs::Pick::picks), unfolding(crate::specs::Rules::key_turned))]
     pub(crate) fn turn_key(mut self, position: u32, ready: bool) -> Car
         ensures { result ≡ key_turned self position ready }
     {
@@ -60,6 +63,7 @@ impl Car {
         self
     }
 
+    #[tactic(auto, using(kit::specs::Pick::picks), unfolding(crate::specs::Rules::lever_desired))]
     fn lever_desired(self, position: u32) -> u32
         ensures { result ≡ lever_desired self position }
     {
@@ -72,6 +76,7 @@ impl Car {
         least(ceiling(self.settings), self.speed)
     }
 
+    #[tactic(auto, using(kit::specs::Pick::picks), unfolding(crate::specs::Rules::up_down_moved, crate::specs::Car::with_cruise, crate::specs::Car::with_levers))]
     pub(crate) fn move_up_down(mut self, position: u32) -> Car
         ensures { result ≡ up_down_moved self position }
     {
@@ -87,6 +92,7 @@ impl Car {
         self
     }
 
+    #[tactic(auto, using(kit::specs::Pick::picks), unfolding(crate::specs::Rules::engages))]
     fn engages(self) -> bool
         ensures { result ≡ engages self }
     {
@@ -95,6 +101,7 @@ impl Car {
             & (self.cruise.on | (self.speed >= 200) | (self.cruise.desired > 0))
     }
 
+    #[tactic(auto, using(kit::specs::Pick::picks), unfolding(crate::specs::Rules::start_desired))]
     fn start_desired(self) -> u32
         ensures { result ≡ start_desired self }
     {
@@ -104,6 +111,7 @@ impl Car {
         self.cruise.desired
     }
 
+    #[tactic(auto, using(kit::specs::Pick::picks), unfolding(crate::specs::Rules::engaged, crate::specs::Car::with_cruise))]
     fn engage(mut self, desired: u32) -> Car
         ensures { result ≡ engaged self desired }
     {
@@ -112,6 +120,7 @@ impl Car {
         self
     }
 
+    #[tactic(auto, using(kit::specs::Pick::picks), unfolding(crate::specs::Rules::forward))]
     fn forward(self) -> Car
         ensures { result ≡ forward self }
     {
@@ -122,6 +131,7 @@ impl Car {
     }
 
     // T and B are 0 with cruise off.
+    #[tactic(auto, using(kit::specs::Pick::picks), unfolding(crate::specs::Rules::cruise_off, crate::specs::Car::with_cruise, crate::specs::Car::with_levers))]
     fn cruise_off(mut self) -> Car
         ensures { result ≡ cruise_off self }
     {
@@ -131,6 +141,7 @@ impl Car {
         self
     }
 
+    #[tactic(auto, using(kit::specs::Pick::picks), unfolding(crate::specs::Rules::backward, crate::specs::Rules::cruise_off, crate::specs::Car::with_limiter, crate::specs::Car::with_cruise, crate::specs::Car::with_levers))]
     fn backward(self) -> Car
         ensures { result ≡ backward self }
     {
@@ -140,6 +151,7 @@ impl Car {
         car
     }
 
+    #[tactic(auto, using(kit::specs::Pick::picks), unfolding(crate::specs::Rules::fore_back_moved, crate::specs::Rules::with_foreback, crate::specs::Car::with_levers))]
     pub(crate) fn move_fore_back(mut self, position: u32) -> Car
         ensures { result ≡ fore_back_moved self position }
     {
@@ -151,6 +163,7 @@ impl Car {
         }
     }
 
+    #[tactic(auto, using(kit::specs::Pick::picks), unfolding(crate::specs::Rules::brake_pressed, crate::specs::Rules::cruise_off, crate::specs::Car::with_pedals, crate::specs::Car::with_cruise, crate::specs::Car::with_levers))]
     pub(crate) fn press_brake(mut self, brake: u32) -> Car
         ensures { result ≡ brake_pressed self brake }
     {
@@ -161,6 +174,7 @@ impl Car {
         self
     }
 
+    #[tactic(auto, using(kit::specs::Pick::picks), unfolding(crate::specs::Rules::gas_pressed, crate::specs::Car::with_limiter, crate::specs::Car::with_pedals))]
     pub(crate) fn press_gas(mut self, gas: u32) -> Car
         ensures { result ≡ gas_pressed self gas }
     {
@@ -171,6 +185,7 @@ impl Car {
         self
     }
 
+    #[tactic(auto, using(kit::specs::Pick::picks), unfolding(crate::specs::Rules::button_pressed, crate::specs::Car::with_limiter))]
     pub(crate) fn press_button(mut self, limit: u32) -> Car
         ensures { result ≡ button_pressed self limit }
     {
@@ -183,6 +198,7 @@ impl Car {
         self
     }
 
+    #[tactic(auto, using(kit::specs::Pick::picks), unfolding(crate::specs::Car::with_gap))]
     pub(crate) fn choose_gap(mut self, tenths: u32) -> Car
         ensures { result ≡ gap_chosen self tenths }
     {
@@ -190,6 +206,7 @@ impl Car {
         self
     }
 
+    #[tactic(auto, using(kit::specs::Pick::picks), unfolding(crate::specs::Rules::sign_acts))]
     fn sign_acts(self) -> bool
         ensures { result ≡ sign_acts self }
     {
@@ -201,6 +218,7 @@ impl Car {
             & (self.levers.foreback == 0)
     }
 
+    #[tactic(auto, using(kit::specs::Pick::picks), unfolding(crate::specs::Rules::sign_after))]
     fn sign_after(self, sign: u32) -> u32
         ensures { result ≡ sign_after self sign }
     {
@@ -210,6 +228,7 @@ impl Car {
         self.cruise.desired
     }
 
+    #[tactic(auto, using(kit::specs::Pick::picks), unfolding(crate::specs::Rules::sign_passed, crate::specs::Car::with_cruise))]
     pub(crate) fn pass_sign(mut self, sign: u32) -> Car
         ensures { result ≡ sign_passed self sign }
     {
@@ -218,6 +237,7 @@ impl Car {
         self
     }
 
+    #[tactic(auto, using(kit::specs::Pick::picks), unfolding(crate::specs::Rules::reading_taken, crate::specs::Car::with_radar))]
     pub(crate) fn take_reading(mut self, range: u32, speed: u32) -> Car
         ensures { result ≡ reading_taken self range speed }
     {

@@ -14,6 +14,7 @@ use desired::long_held;
 use motion::at_most;
 use number::{least, less};
 
+#[tactic(auto, using(kit::specs::Pick::picks), unfolding(crate::specs::Rules::range_after))]
 fn range_after(ready: bool, range: u32) -> u32
     ensures { result ≡ range_after ready range }
 {
@@ -26,6 +27,7 @@ fn range_after(ready: bool, range: u32) -> u32
     range
 }
 
+#[tactic(auto, using(kit::specs::Pick::picks), unfolding(crate::specs::Rules::radar_tested))]
 fn tested(mut radar: RangeRadar, ready: bool, now: u32) -> RangeRadar
     ensures { result ≡ radar_tested radar ready now }
 {
@@ -37,6 +39,7 @@ fn tested(mut radar: RangeRadar, ready: bool, now: u32) -> RangeRadar
 }
 
 // v after a second of the acceleration, by its code.
+#[tactic(auto, using(kit::specs::Pick::picks), unfolding(motion::specs::AccelerationShape::moved_by))]
 fn speed_after(speed: u32, code: u32) -> u32
     requires { (speed ≤ speed_ceiling) × (code ≤ 127) }
     ensures { result ≡ moved_by speed code }
@@ -48,7 +51,7 @@ fn speed_after(speed: u32, code: u32) -> u32
 }
 
 // D and v after a second.
-#[derive(Drop)]
+#[derive(Clone, Copy)]
 pub(crate) struct Moved {
     pub(crate) desired: u32,
     pub(crate) speed: u32,
@@ -56,6 +59,7 @@ pub(crate) struct Moved {
 
 impl Car {
     // The radar is tested in this second.
+    #[tactic(auto, using(kit::specs::Pick::picks), unfolding(crate::specs::Rules::test_due))]
     pub(crate) fn test_due(self) -> bool
         requires { Ranges self }
         ensures { result ≡ test_due self }
@@ -64,6 +68,7 @@ impl Car {
     }
 
     // D after a second with cruise on, where the lever may be held.
+    #[tactic(auto, using(kit::specs::Pick::picks), unfolding(crate::specs::Rules::hold_desired))]
     fn hold_desired(self) -> u32
         requires { Ranges self }
         ensures { result ≡ hold_desired self (self.now + 1 - self.levers.time) }
@@ -75,6 +80,7 @@ impl Car {
     }
 
     // D after h seconds with the lever out.
+    #[tactic(auto, using(kit::specs::Pick::picks), unfolding(crate::specs::Rules::hold_desired))]
     fn held_for(self, h: u32) -> u32
         requires { self.levers.updown ≡ 0 → ⊥ }
         ensures { result ≡ hold_desired self h }
@@ -119,6 +125,7 @@ impl Car {
     }
 
     // A second passes.
+    #[tactic(auto, using(kit::specs::Pick::picks), unfolding(crate::specs::LessonShape::second_passed))]
     pub(crate) fn tick(mut self, moved: Moved) -> Car
         requires { Ranges self }
         ensures { result ≡ second_passed self moved.desired moved.speed }
@@ -130,6 +137,7 @@ impl Car {
     }
 
     // The radar is tested in the second that has passed.
+    #[tactic(auto, using(kit::specs::Pick::picks), unfolding(crate::specs::LessonShape::radar_tried, crate::specs::Car::with_radar))]
     pub(crate) fn test_radar(mut self, ready: bool) -> Car
         ensures { result ≡ radar_tried self ready }
     {

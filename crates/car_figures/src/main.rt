@@ -1,5 +1,7 @@
 // A line for each pair of settings, 0 to 3 and 0 to 2: the refusal of Car::fresh. Then for each car of standard input, 23 words in the
 // order of document 01's fields, a line: refusal, speed, desired, acceleration, visual, acoustic, secure distance.
+#![tactic(auto)]
+
 use car::{Car, Fresh};
 use event::bit;
 
@@ -25,10 +27,8 @@ fn line(out: &mut [u8], at: usize, car: Car) -> usize {
 
 fn lines(out: &mut [u8], start: usize, words: &[u32]) -> usize {
     let mut end = start;
-    let mut i = 0;
-    while i < words.len() / 23 {
+    for i in 0..words.len() / 23 {
         end = line(out, end, tester::car_at(words, 23 * i));
-        i += 1;
     }
     end
 }
@@ -42,10 +42,8 @@ fn fresh(out: &mut [u8], at: usize, mode: u32, signs: u32) -> usize {
 
 fn fresh_lines(out: &mut [u8]) -> usize {
     let mut end = 0;
-    let mut i = 0;
-    while i < 12 {
+    for i in 0..12 {
         end = fresh(out, end, i / 3, i % 3);
-        i += 1;
     }
     end
 }
@@ -55,14 +53,14 @@ fn all_lines(out: &mut [u8], words: &[u32]) -> usize {
     lines(out, start, words)
 }
 
-fn main() {
+fn main(rt: HostRuntime) {
     let mut words = [0; 16384];
-    let input = tester::read_words(&mut words, b"car_figures: standard input");
+    let input = tester::read_words(&rt, &mut words, b"car_figures: standard input");
     if input.failed {
         return;
     }
     let mut out = [0; 131072];
     let count = input.count;
     let end = all_lines(&mut out, &words[0..count]);
-    tester::write(&out, end, b"car_figures: standard output");
+    tester::write(&rt, &out, end, b"car_figures: standard output");
 }

@@ -1,4 +1,6 @@
 // The checks 4 to 16 over plain numbers (document 01, "From file, pupil, radar, clock and caller"): the first number that holds, or 0.
+#![tactic(auto, using(kit::specs::Pick::picks))]
+
 ghost use Rattle.std.specs.Prelude.{◌≡◌};
 ghost use Rattle.checks.specs.Checks.{key_on, key_skips, key_check, up_down_skips, up_down_check, fore_back_skips, fore_back_check, pedal_check, button_check, radar_check, tick_check};
 
@@ -8,6 +10,7 @@ use event::refusal;
 pub const LESSON_LENGTH: u32 = 86_400;
 
 // 4, before what the kind's own checks give.
+#[tactic(auto, using(kit::specs::Pick::picks), unfolding(crate::specs::Checks::key_on))]
 pub fn key_on(key: u32, refusal: u32) -> u32
     ensures { result ≡ key_on key refusal }
 {
@@ -17,12 +20,14 @@ pub fn key_on(key: u32, refusal: u32) -> u32
     refusal
 }
 
+#[tactic(auto, using(kit::specs::Pick::picks), unfolding(crate::specs::Checks::key_skips))]
 fn key_skips(from: u32, to: u32) -> bool
     ensures { result ≡ key_skips from to }
 {
     ((from == 0) & (to == 2)) | ((from == 2) & (to == 0))
 }
 
+#[tactic(auto, using(kit::specs::Pick::picks), unfolding(crate::specs::Checks::key_check))]
 pub fn key_check(key: u32, speed: u32, position: u32, ready: bool) -> u32
     ensures { result ≡ key_check key speed position ready }
 {
@@ -41,6 +46,7 @@ pub fn key_check(key: u32, speed: u32, position: u32, ready: bool) -> u32
     0
 }
 
+#[tactic(auto, using(kit::specs::Pick::picks), unfolding(crate::specs::Checks::up_down_skips))]
 fn up_down_skips(from: u32, to: u32) -> bool
     ensures { result ≡ up_down_skips from to }
 {
@@ -48,6 +54,7 @@ fn up_down_skips(from: u32, to: u32) -> bool
 }
 
 // Of the up-down lever, by what it and the other lever hold.
+#[tactic(auto, using(kit::specs::Pick::picks), unfolding(crate::specs::Checks::up_down_check))]
 pub fn up_down_check(updown: u32, foreback: u32, position: u32) -> u32
     ensures { result ≡ up_down_check updown foreback position }
 {
@@ -63,6 +70,7 @@ pub fn up_down_check(updown: u32, foreback: u32, position: u32) -> u32
     0
 }
 
+#[tactic(auto, using(kit::specs::Pick::picks), unfolding(crate::specs::Checks::fore_back_skips))]
 fn fore_back_skips(from: u32, to: u32) -> bool
     ensures { result ≡ fore_back_skips from to }
 {
@@ -70,6 +78,7 @@ fn fore_back_skips(from: u32, to: u32) -> bool
 }
 
 // Of the fore-back lever, by what it and the other lever hold.
+#[tactic(auto, using(kit::specs::Pick::picks), unfolding(crate::specs::Checks::fore_back_check))]
 pub fn fore_back_check(foreback: u32, updown: u32, position: u32) -> u32
     ensures { result ≡ fore_back_check foreback updown position }
 {
@@ -86,6 +95,7 @@ pub fn fore_back_check(foreback: u32, updown: u32, position: u32) -> u32
 }
 
 // Of brake or gas, by what it and the other pedal hold.
+#[tactic(auto, using(kit::specs::Pick::picks), unfolding(crate::specs::Checks::pedal_check))]
 pub fn pedal_check(held: u32, other: u32, value: u32) -> u32
     ensures { result ≡ pedal_check held other value }
 {
@@ -98,6 +108,7 @@ pub fn pedal_check(held: u32, other: u32, value: u32) -> u32
     0
 }
 
+#[tactic(auto, using(kit::specs::Pick::picks), unfolding(crate::specs::Checks::button_check))]
 pub fn button_check(button: bool, foreback: u32, gas: u32, speed: u32, limit: u32) -> u32
     ensures { result ≡ button_check button foreback gas speed limit }
 {
@@ -116,6 +127,7 @@ pub fn button_check(button: bool, foreback: u32, gas: u32, speed: u32, limit: u3
     0
 }
 
+#[tactic(auto, using(kit::specs::Pick::picks), unfolding(crate::specs::Checks::radar_check))]
 pub fn radar_check(ready: bool) -> u32
     ensures { result ≡ radar_check ready }
 {
@@ -126,6 +138,7 @@ pub fn radar_check(ready: bool) -> u32
 }
 
 // Of a tick with the bit `said`, by whether the radar is ready, and whether it is tested in this second.
+#[tactic(auto, using(kit::specs::Pick::picks), unfolding(crate::specs::Checks::tick_check))]
 pub fn tick_check(ready: bool, due: bool, now: u32, said: bool) -> u32
     ensures { result ≡ tick_check ready due now said }
 {

@@ -1,41 +1,56 @@
 // The program `clean` (document 02, §2): the clean exercise file of an exercise file, on standard output. The work is `cleaning`'s; here it is read
 // and written, and no contract can say what comes in or goes out.
+#![tactic(auto)]
+
 ghost use Rattle.std.specs.Prelude.{◌≤◌, length};
 
 use car::{Car, Fresh};
 use command::Request;
-use libc::STDERR_FILENO;
+use console::Source;
+use std::io::Write;
 
 // The car behind the words that have come, how many bytes are kept for the next piece, and whether there is more to do.
-#[derive(Drop)]
+#[derive(Clone, Copy)]
 struct Progress {
     car: Car,
     held: usize,
     more: bool,
 }
 
-fn write(bytes: &[u8]) -> bool {
-    console::write(bytes, b"clean: standard output")
+fn write(rt: &HostRuntime, bytes: &[u8]) -> bool {
+    console::write(
+        &mut rt.stdout(),
+        &mut rt.stderr(),
+        bytes,
+        b"clean: standard output",
+    )
+}
+
+// The line of a refusal; the index past it.
+fn put_refused(line: &mut [u8; 29], refusal: u32) -> usize
+    ensures { result ≤ 29 }
+{
+    listing::put_refused(line, 0, refusal)
 }
 
 // A refusal, on standard error; 0 is none.
-fn tell(refusal: u32) {
+fn tell(rt: &HostRuntime, refusal: u32) {
     if refusal == 0 {
         return;
     }
     let mut line = [0u8; 29];
-    let end = listing::put_refused(&mut line, 0, refusal);
-    io::write_all(STDERR_FILENO, &line[0..end]);
+    let end = put_refused(&mut line, refusal);
+    let _ = Write::write_all(&mut rt.stderr(), &line[0..end]);
 }
 
 // Works off a piece that has come behind the bytes kept, and keeps what is left of it.
-fn advance(progress: Progress, bytes: &mut [u8], out: &mut [u8]) -> Progress
+fn advance(rt: &HostRuntime, progress: Progress, bytes: &mut [u8], out: &mut [u8]) -> Progress
     ensures { result.held ≤ length bytes.new }
 {
     let car = progress.car;
     let turned = cleaning::turn(car, bytes, out);
     let end = turned.end;
-    let written = write(&out[0..end]);
+    let written = write(rt, &out[0..end]);
     let next = turned.car;
     Progress {
         car: next,
@@ -56,74 +71,84 @@ fn stop(progress: Progress) -> Progress
 }
 
 // Reads the next piece, as much as has come, and works it off.
-fn step(input: i32, what: &[u8], progress: Progress, bytes: &mut [u8], out: &mut [u8]) -> Progress
+fn step(
+    rt: &HostRuntime,
+    input: &mut Source,
+    what: &[u8],
+    progress: Progress,
+    bytes: &mut [u8],
+    out: &mut [u8],
+) -> Progress
     requires { progress.held ≤ length bytes.old }
     ensures { result.held ≤ length bytes.new }
 {
     let held = progress.held;
-    let piece = console::read(input, &mut bytes[held..], what);
+    let piece = console::read(input, &mut rt.stderr(), &mut bytes[held..], what);
     if piece.failed {
         return stop(progress);
     }
     if piece.count == 0 {
-        tell(cleaning::close(held));
+        tell(rt, cleaning::close(held));
         return stop(progress);
     }
     let count = held + piece.count;
-    advance(progress, &mut bytes[0..count], out)
+    advance(rt, progress, &mut bytes[0..count], out)
 }
 
 // Piece after piece, to the end: the count of pieces only falls because nothing says that an input ends.
-fn pieces(input: i32, what: &[u8], car: Car, bytes: &mut [u8], out: &mut [u8]) {
+fn pieces(
+    rt: &HostRuntime,
+    input: &mut Source,
+    what: &[u8],
+    car: Car,
+    bytes: &mut [u8],
+    out: &mut [u8],
+) {
     let mut progress = Progress {
         car: car,
         held: 0,
         more: true,
     };
-    let mut left = u64::MAX;
-    while left > 0 {
-        progress = step(input, what, progress, bytes, out);
+    for _ in 0..u64::MAX {
+        progress = step(rt, input, what, progress, bytes, out);
         if !progress.more {
             return;
         }
-        left -= 1;
     }
 }
 
 // The words behind the settings word, once that is out.
-fn clean_events(input: i32, what: &[u8], car: Car) {
+fn clean_events(rt: &HostRuntime, input: &mut Source, what: &[u8], car: Car) {
     let mut bytes = [0u8; 4096];
     let mut out = [0u8; 4096];
-    pieces(input, what, car, &mut bytes, &mut out);
+    pieces(rt, input, what, car, &mut bytes, &mut out);
 }
 
-// Cleans the file that a descriptor reads; `what` is the program and the file's name.
-fn clean(input: i32, what: &[u8]) {
+// Cleans an input; `what` is the program and the input's name.
+fn clean(rt: &HostRuntime, input: &mut Source, what: &[u8]) {
     let mut first = [0u8; 4];
-    let got = console::read_all(input, &mut first, what);
+    let got = console::read_all(input, &mut rt.stderr(), &mut first, what);
     if got.failed {
         return;
     }
     let count = got.count;
     match cleaning::open(&first[0..count]) {
         Fresh::Made(car) => {
-            if write(&first[0..count]) {
-                clean_events(input, what, car);
+            if write(rt, &first[0..count]) {
+                clean_events(rt, input, what, car);
             }
         }
-        Fresh::Refused(n) => tell(n),
+        Fresh::Refused(n) => tell(rt, n),
     }
 }
 
-fn usage() {
-    io::write_all(
-        STDERR_FILENO,
-        b"usage: clean [FILE] (clean --help says more)\n",
-    );
+fn usage(rt: &HostRuntime) {
+    let _ = eprintln!(rt; "usage: clean [FILE] (clean --help says more)");
 }
 
-fn help() {
+fn help(rt: &HostRuntime) {
     write(
+        rt,
         b"usage: clean [FILE]
 Takes the words that the car refuses out of an exercise.
 FILE, or standard input, holds 32-bit words, lowest byte first: a settings word
@@ -143,19 +168,16 @@ docs/REFERENCE.md has every word and refusal.
     );
 }
 
-fn run(what: &mut [u8]) {
-    match command::asked(b"clean: ", what) {
-        Request::Input(input, end) => {
-            clean(input, &what[0..end]);
-            libc::close(input);
-        }
-        Request::Help => help(),
-        Request::Usage => usage(),
+fn run(rt: &HostRuntime, what: &mut [u8]) {
+    match command::asked(rt, b"clean: ", what) {
+        Request::Input(mut input, end) => clean(rt, &mut input, &what[0..end]),
+        Request::Help => help(rt),
+        Request::Usage => usage(rt),
         Request::Nothing => {}
     }
 }
 
-fn main() {
+fn main(rt: HostRuntime) {
     let mut what = [0u8; 4104];
-    run(&mut what);
+    run(&rt, &mut what);
 }

@@ -1,1 +1,3 @@
+pub mod CleanFileLaws
+pub mod PiecesLaws
 pub mod Turning

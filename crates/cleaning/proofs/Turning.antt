@@ -13,11 +13,11 @@ use Rattle.kit.specs.Placed.{placed, placed_nothing}
 use Rattle.car.specs.declared.Car.{Car}
 use Rattle.car.specs.Good.{good_of}
 use Rattle.history.specs.History.{accepted_words}
-use Rattle.history.specs.AcceptedLaws.{accepted_few}
+use Rattle.history.proofs.AcceptedLaws.{accepted_few}
 use Rattle.copy.specs.declared.Part.{Part}
 use Rattle.copy.specs.Copy.{too_short, copied_into, copied_part, uncopied_part, part_of, part_buffer}
 use Rattle.wire.specs.Wire.{bytes_count, bytes_after}
-use Rattle.wire.specs.WireLaws.{bytes_fit}
+use Rattle.wire.proofs.WireLaws.{bytes_fit}
 use Rattle.cleaning.specs.declared.Turned.{Turned}
 use Rattle.cleaning.specs.Pieces.{Turn, idle, driven_turn, words_turn, turn_of, turn_in, answered}
 

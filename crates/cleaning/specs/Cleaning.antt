@@ -1,4 +1,4 @@
--- The clean exercise file, from the bytes of a file: document 02, §2, for instructors. `acceptedWords` are a list's accepted words from a car, in
+-- The clean exercise file, from the bytes of a file: document 02, §2, for instructors. `accepted_words` are a list's accepted words from a car, in
 -- order.
 -- Assumes nothing.
 use Rattle.std.specs.Prelude.{List, [], ◌++◌, ℕ, ◌%◌, eqb, ltb, length, take, drop}

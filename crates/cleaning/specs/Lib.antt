@@ -1,5 +1,3 @@
 pub mod Cleaning
 pub mod Pieces
-pub mod PiecesLaws
 pub mod CleanFile
-pub mod CleanFileLaws

@@ -1,6 +1,8 @@
 // A clean exercise file (document 02, §2), made piece by piece as the bytes of a file come: `open` for its first four bytes, which go out as they
-// are, `turn` for each piece behind them, `close` at the end. specs/Cleaning.antt has the clean file of a whole file, and specs/PiecesLaws.antt that
+// are, `turn` for each piece behind them, `close` at the end. specs/Cleaning.antt has the clean file of a whole file, and proofs/PiecesLaws.antt that
 // the bytes of the pieces, in order, are it.
+#![tactic(auto, using(kit::specs::Pick::picks))]
+
 ghost use Rattle.std.specs.Prelude.{◌≡◌, ◌≤◌, length};
 ghost use Rattle.kit.specs.Placed.{placed};
 ghost use Rattle.car.specs.Car.{fresh_answer};
@@ -11,7 +13,7 @@ use car::{Car, Fresh};
 use event::refusal;
 
 // What a turn gives: the car behind it, how many of its bytes it used, and where the clean bytes end.
-#[derive(Drop)]
+#[derive(Clone, Copy)]
 pub struct Turned {
     pub car: Car,
     pub used: usize,
@@ -24,6 +26,7 @@ const WORDS: usize = 1024;
 const ROOM: usize = 4096;
 
 // The settings word: the fresh car, or 17. Bytes behind the first four are passed over.
+#[tactic(auto, using(kit::specs::Pick::picks), unfolding(crate::specs::Cleaning::open_of))]
 pub fn open(bytes: &[u8]) -> Fresh
     ensures { fresh_answer result ≡ open_of bytes.now }
 {
@@ -33,6 +36,7 @@ pub fn open(bytes: &[u8]) -> Fresh
     settings::start(wire::word_at(bytes, 0))
 }
 
+#[tactic(auto, using(kit::specs::Pick::picks), unfolding(crate::specs::Pieces::answered, crate::specs::Pieces::idle))]
 fn nothing_done(car: Car) -> Turned
     ensures { result ≡ answered (idle car) }
 {
@@ -77,6 +81,7 @@ pub fn turn(car: Car, bytes: &[u8], out: &mut [u8]) -> Turned
 }
 
 // The end of the file, after which so many bytes were not used: its refusal, 0 for none.
+#[tactic(auto, using(kit::specs::Pick::picks), unfolding(crate::specs::Cleaning::end_refusal))]
 pub fn close(held: usize) -> u32
     ensures { result ≡ end_refusal held }
 {

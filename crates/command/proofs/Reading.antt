@@ -1,19 +1,14 @@
 -- What the loop of read_number keeps, and what it answers by it.
 -- Assumes nothing.
-use mathlib.Core.Bool.{true, false, ◌&&◌, not}
-use mathlib.Core.List.{List, [], ◌∷◌}
-use mathlib.Core.Path.{◌≡◌, refl, sym, ap, ◌∙◌}
-use Prim.Native.Nat.{ℕ, ◌+◌, ◌-◌, ◌*◌, ◌≤◌, ◌<◌}
-use native.Mathlib.Numerals.{add-one}
-use native.Mathlib.Omega.{arith}
-use borrow.Author.Tests.{lt-leb, le-leb, eq-eqb, ne_eqb}
-use lib.Dec.{eqb, leb}
-use lib.ListN.{length, drop, get_or, drop_of_length-le}
-use lib.Seq.{drop-cons}
+use Rattle.std.proofs.Common.{true, false, ◌&&◌, not, List, [], ◌∷◌, ◌≡◌, refl, sym, ap, ◌∙◌, ℕ, ◌+◌, ◌-◌, ◌*◌, ◌≤◌, ◌<◌, arith, length, drop, get_or, eqb, leb}
+use Rattle.std.proofs.Math.Numerals.{add-one}
+use Rattle.std.proofs.Math.ListN.{drop_of_length-le}
+use Rattle.std.proofs.Math.Seq.{drop-cons}
+use Rattle.std.proofs.lemmas.Bool.{lt-leb, le-leb, eq-eqb, ne_eqb}
 use Rattle.kit.specs.Pick.{pick_true, pick_false, and_both, and_left, and_right, not_of_true, not_of_false, picks}
-use Rattle.command.specs.declared.number.Number.TheVariants.{Given, None}
+use Rattle.command.specs.declared.typed.Number.TheVariants.{Given, None}
 use Rattle.command.specs.Number.{is_digit, all_digits, value_from, is_number, number_in}
-use Rattle.command.specs.NumberLaws.{value_rises}
+use Rattle.command.proofs.NumberLaws.{value_rises}
 
 no_number : (text : List ℕ) → is_number text ≡ false → None ≡ number_in text
 unfolding number_in

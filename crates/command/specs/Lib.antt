@@ -1,3 +1,2 @@
 pub mod Request
 pub mod Number
-pub mod NumberLaws

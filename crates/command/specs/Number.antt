@@ -2,8 +2,8 @@
 -- Assumes nothing.
 use Rattle.std.specs.Prelude.{Bool, true, ◌&&◌, not, List, [], ◌∷◌, ℕ, ◌+◌, ◌-◌, ◌*◌, eqb, leb, length}
 use Rattle.kit.specs.Pick.{pick}
-use Rattle.command.specs.declared.number.Number.{Number}
-use Rattle.command.specs.declared.number.Number.TheVariants.{Given, None}
+use Rattle.command.specs.declared.typed.Number.{Number}
+use Rattle.command.specs.declared.typed.Number.TheVariants.{Given, None}
 
 -- "0" to "9"
 unfoldable pub is_digit : ℕ → Bool

@@ -1,18 +1,23 @@
 // The arguments of a program that reads one file: none for standard input, or the file's name, or `--help` alone; and of one that takes a mark
 // before it.
+#![tactic(auto, using(kit::specs::Pick::picks))]
+
 ghost use Rattle.std.specs.Prelude.{◌≡◌, ◌≤◌, length};
 ghost use Rattle.command.specs.Request.{name_end};
 
-use libc::STDIN_FILENO;
+use console::Source;
+use std::env::FillError;
+use std::io;
+use std::rt::Env;
 
-mod number;
+mod typed;
 
-pub use number::{Number, read_number};
+pub use typed::{Number, read_number};
 
 // What they ask for: an input, with the index where its name ends; the help; the usage; or nothing more, since a failure has been told.
 #[derive(Drop)]
 pub enum Request {
-    Input(i32, usize),
+    Input(Source, usize),
     Help,
     Usage,
     Nothing,
@@ -25,13 +30,29 @@ pub struct Marked {
     pub request: Request,
 }
 
-fn help_alone() -> bool {
-    if os::arg_count() != 2 {
+// The system's numbers for an argument that is not there, and for one that is too long.
+const EINVAL: i32 = 22;
+
+const ENAMETOOLONG: i32 = 36;
+
+fn has_argument(rt: &HostRuntime, argument: usize) -> bool {
+    let mut none = [0u8; 0];
+    match rt.arg(argument, &mut none) {
+        Err(FillError::NotPresent) => false,
+        Err(FillError::TooLong) => true,
+        Ok(_) => true,
+    }
+}
+
+fn help_alone(rt: &HostRuntime) -> bool {
+    if has_argument(rt, 2) {
         return false;
     }
     let mut first = [0u8; 6];
-    let size = os::arg(1, &mut first);
-    check::same(&first[0..size], b"--help")
+    match rt.arg(1, &mut first) {
+        Ok(size) => &first[0..size] == b"--help".as_slice(),
+        Err(_) => false,
+    }
 }
 
 fn is_option(name: &[u8]) -> bool {
@@ -41,59 +62,82 @@ fn is_option(name: &[u8]) -> bool {
     name[0] == b'-'
 }
 
+// A text at an index; the index past it.
+fn put(what: &mut [u8], at: usize, text: &[u8]) -> usize
+    requires { at ≤ length what.old }
+    ensures { result ≤ length what.new }
+{
+    listing::put_text(what, at, text)
+}
+
 // A file's name, which is no option. `what` is the program and that name.
-fn file(name: &[u8], what: &[u8]) -> Request
+fn file(rt: &HostRuntime, name: &[u8], what: &[u8]) -> Request
     ensures { name_end result ≤ length what.now }
 {
     if is_option(name) {
         return Request::Usage;
     }
-    let file = os::open_read(name);
-    if file < 0 {
-        os::fail(what);
-        return Request::Nothing;
+    match console::open(rt, &mut rt.stderr(), name, what) {
+        Some(file) => Request::Input(file, what.len()),
+        None => Request::Nothing,
     }
-    Request::Input(file, what.len())
 }
 
-// An argument, a file's name, goes behind the program's name, which ends at an index.
-fn named(argument: usize, what: &mut [u8], at: usize) -> Request
+// A name that is no argument, or too long for one, stands as FILE.
+fn unnamed(rt: &HostRuntime, error: FillError, what: &mut [u8], at: usize) -> Request
     requires { at ≤ length what.old }
     ensures { name_end result ≤ length what.new }
 {
-    let size = os::arg(argument, &mut what[at..]);
-    if os::errno() != 0 {
-        let end = listing::put_text(what, at, b"FILE");
-        os::fail(&what[0..end]);
-        return Request::Nothing;
+    let end = put(what, at, b"FILE");
+    let code = match error {
+        FillError::NotPresent => EINVAL,
+        FillError::TooLong => ENAMETOOLONG,
+    };
+    console::fail(
+        &mut rt.stderr(),
+        &what[0..end],
+        io::Error::from_raw_os_error(code),
+    );
+    Request::Nothing
+}
+
+// An argument, a file's name, goes behind the program's name, which ends at an index.
+fn named(rt: &HostRuntime, argument: usize, what: &mut [u8], at: usize) -> Request
+    requires { at ≤ length what.old }
+    ensures { name_end result ≤ length what.new }
+{
+    match rt.arg(argument, &mut what[at..]) {
+        Ok(size) => {
+            let end = at + size;
+            file(rt, &what[at..end], &what[0..end])
+        }
+        Err(error) => unnamed(rt, error, what, at),
     }
-    let end = at + size;
-    file(&what[at..end], &what[0..end])
 }
 
 // The file that an argument names, standard input where that is missing.
-fn input(argument: usize, program: &[u8], what: &mut [u8]) -> Request
+fn input(rt: &HostRuntime, argument: usize, program: &[u8], what: &mut [u8]) -> Request
     ensures { name_end result ≤ length what.new }
 {
-    let at = listing::put_text(what, 0, program);
-    if os::arg_count() <= argument {
-        let end = listing::put_text(what, at, b"standard input");
-        return Request::Input(STDIN_FILENO, end);
+    let at = put(what, 0, program);
+    if !has_argument(rt, argument) {
+        let end = put(what, at, b"standard input");
+        return Request::Input(console::standard_input(rt), end);
     }
-    named(argument, what, at)
+    named(rt, argument, what, at)
 }
 
 // `program` is the program's name and ": ". It and the input's name stand in `what` afterwards, as a failure is told.
-pub fn asked(program: &[u8], what: &mut [u8]) -> Request
+pub fn asked(rt: &HostRuntime, program: &[u8], what: &mut [u8]) -> Request
     ensures { name_end result ≤ length what.new }
 {
-    if os::arg_count() > 2 {
+    if has_argument(rt, 2) {
         return Request::Usage;
     }
-    if help_alone() {
+    if help_alone(rt) {
         return Request::Help;
     }
-    input(1, program, what)
+    input(rt, 1, program, what)
 }
 
 fn no_mark(request: Request) -> Marked
@@ -106,25 +150,27 @@ fn no_mark(request: Request) -> Marked
 }
 
 // The first argument as a number. One that is longer than `what` is none.
-fn first_number(what: &mut [u8]) -> Number {
-    let size = os::arg(1, what);
-    read_number(&what[0..size])
+fn first_number(rt: &HostRuntime, what: &mut [u8]) -> Number {
+    match rt.arg(1, what) {
+        Ok(size) => read_number(&what[0..size]),
+        Err(_) => Number::None,
+    }
 }
 
 // The same of a program that takes a mark as its first argument, and the file's name as its second.
-pub fn asked_mark(program: &[u8], what: &mut [u8]) -> Marked
+pub fn asked_mark(rt: &HostRuntime, program: &[u8], what: &mut [u8]) -> Marked
     ensures { name_end result.request ≤ length what.new }
 {
-    if os::arg_count() > 3 {
+    if has_argument(rt, 3) {
         return no_mark(Request::Usage);
     }
-    if help_alone() {
+    if help_alone(rt) {
         return no_mark(Request::Help);
     }
-    match first_number(what) {
+    match first_number(rt, what) {
         Number::Given(mark) => Marked {
             mark: mark,
-            request: input(2, program, what),
+            request: input(rt, 2, program, what),
         },
         Number::None => no_mark(Request::Usage),
     }

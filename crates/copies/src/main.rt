@@ -3,9 +3,12 @@
 // 3 cut length words, the clean file of an exercise file of so many bytes, handed over in pieces of that cut; 0 ends.
 // Prints for each copy its refusal and the number written, then its buffer, and for a copy from a car its fields afterwards; for a clean
 // file its refusal and the number of its words, then the words.
+#![tactic(auto)]
+
 ghost use Rattle.std.specs.Prelude.{◌≤◌, length};
 
 use car::{Car, Fresh};
+use std::io;
 
 // A lesson's words start here in the program's own array.
 const START: usize = 3;
@@ -17,7 +20,7 @@ const MOST: usize = 3072;
 const UNUSED: u32 = 0xDEAD_BEEF;
 
 // The index of the next word of the input and the index past the text.
-#[derive(Drop)]
+#[derive(Clone, Copy)]
 struct Place {
     next: usize,
     end: usize,
@@ -60,7 +63,7 @@ fn by_car(out: &mut [u8], at: usize, car: Car, words: &[u32], buffer: &mut [u32]
 }
 
 // What a copy starts from: settings, or a car as it stands.
-#[derive(Drop)]
+#[derive(Clone, Copy)]
 enum Source {
     Settings(u32, u32),
     Standing(Car),
@@ -160,7 +163,7 @@ fn car_case(place: Place, out: &mut [u8], input: &[u32]) -> Place {
 }
 
 // What was made of a file: its refusal, and how many bytes its clean file has.
-#[derive(Drop)]
+#[derive(Clone, Copy)]
 struct Cleaned {
     refusal: u32,
     count: usize,
@@ -201,6 +204,7 @@ fn clean_file(bytes: &[u8], cut: usize, clean: &mut [u8]) -> Cleaned
     }
 }
 
+#[tactic(auto, unfolding(wire::specs::Wire::words_count))]
 fn clean_lines(out: &mut [u8], at: usize, cleaned: Cleaned, clean: &[u8]) -> usize {
     let count = cleaned.count;
     if clean.len() < count {
@@ -261,27 +265,31 @@ fn case(kind: u32, place: Place, out: &mut [u8], input: &[u32]) -> Place {
 // As many cases as there are words at most: each takes one.
 fn cases(out: &mut [u8], input: &[u32]) -> usize {
     let mut place = Place { next: 0, end: 0 };
-    let mut left = input.len();
-    while left > 0 {
+    for _ in 0..input.len() {
         let kind = tester::word(input, place.next);
         if kind == 0 {
             return place.end;
         }
         place.next = tester::past(input, place.next, 1);
         place = case(kind, place, out, input);
-        left -= 1;
     }
     place.end
 }
 
-fn main() {
-    let mut words = [0; 16384];
-    let input = tester::read_words(&mut words, b"copies: standard input");
+// The cases of standard input, read into `words` and written from `out`.
+fn run(rt: &HostRuntime, words: &mut [u32], out: &mut [u8]) {
+    let input = tester::read_words(rt, words, b"copies: standard input");
     if input.failed {
         return;
     }
-    let mut out = [0; 524288];
     let count = input.count;
-    let end = cases(&mut out, &words[0..count]);
-    tester::write(&out, end, b"copies: standard output");
+    let end = cases(out, &words[0..count]);
+    tester::write(rt, out, end, b"copies: standard output");
+}
+
+fn main(rt: HostRuntime) -> io::Result<()> {
+    let mut words = [0; 16384];
+    let mut out = vec![in rt.alloc(); 0u8; 524288]?;
+    run(&rt, &mut words, out.as_mut_slice());
+    Ok(())
 }

@@ -20,19 +20,19 @@ use Rattle.answer.specs.AnswerWord as answerword
 use Rattle.car.specs.declared.Car.{Car}
 use Rattle.car.specs.Good.{good_of}
 use Rattle.car.specs.Lesson.{driven, answer_of, answers_of, accepted_of, refused_of, taught_of, lesson_of, each_after, answers_after}
-use Rattle.car.specs.LessonLaws.{driven_good, each_length}
+use Rattle.car.proofs.LessonLaws.{driven_good, each_length}
 use Rattle.record.specs.declared.Written.{Written}
 use Rattle.record.specs.Layout.{packed, unpacked}
 use Rattle.record.specs.Record.{read_of, write_of}
-use Rattle.record.specs.RecordLaws.{packed_read, written_no, written_record}
+use Rattle.record.proofs.RecordLaws.{packed_read, written_no, written_record}
 use Rattle.record.specs.RecordLesson.{LessonLeft, lesson_left}
 use Rattle.history.specs.History.{accepted_words}
-use Rattle.history.specs.HistoryLaws.{driven_append}
-use Rattle.history.specs.AcceptedLaws.{accepted_whole, accepted_append, accepted_count, accepted_few}
+use Rattle.history.proofs.HistoryLaws.{driven_append}
+use Rattle.history.proofs.AcceptedLaws.{accepted_whole, accepted_append, accepted_count, accepted_few}
 use Rattle.copy.specs.declared.Part.{Part}
 use Rattle.copy.specs.Copy.{too_short, copied_into, copied_part, uncopied_part, part_of, part_buffer}
 use Rattle.copy.specs.CopyShape.{sifted_word, sifted, part_read}
-use Rattle.copy.specs.CopyShapeLaws.{sifted_accepted, sifted_next}
+use Rattle.copy.proofs.CopyShapeLaws.{sifted_accepted, sifted_next}
 
 -- ---- one part: the words from `at` to `end`, driven with room for their answers
 module _ (ws : List ℕ) (c : Car) (at end : ℕ) (good : good_of c ≡ true) (below : at < end) (within : end ≤ length ws) (few : end ≤ at + 1024) where

@@ -1,4 +1,4 @@
--- A clean copy of a lesson: document 02, §2. `acceptedWords` are a list's accepted words from a car, in order.
+-- A clean copy of a lesson: document 02, §2. `accepted_words` are a list's accepted words from a car, in order.
 -- Assumes nothing.
 use Rattle.std.specs.Prelude.{Bool, List, ◌++◌, ℕ, ltb, length, drop}
 use Rattle.kit.specs.Answer.{Answer, gives, refused}

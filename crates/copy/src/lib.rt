@@ -1,5 +1,7 @@
 // A clean copy of a lesson (document 02, §2): its accepted words, in order, in a lent buffer. Which words are accepted is read from the answer
 // words of a lesson, part by part. Nothing is written before it is known that all fit.
+#![tactic(auto, using(kit::specs::Pick::picks))]
+
 ghost use Rattle.std.specs.Prelude.{◌≡◌, ◌+◌, ◌≤◌, ◌<◌, leb, length};
 ghost use Rattle.kit.specs.Answer.{gives};
 ghost use Rattle.kit.specs.Placed.{placed};
@@ -15,14 +17,14 @@ use event::refusal;
 use record::Reading;
 
 // How many words were written, 0 when refused, and the refusal, 0, 17 or 19.
-#[derive(Drop)]
+#[derive(Clone, Copy)]
 pub struct Copied {
     pub written: usize,
     pub refusal: u32,
 }
 
 // The same of a part of a lesson, with the car behind it; the refusal is 0, 18 or 19.
-#[derive(Drop)]
+#[derive(Clone, Copy)]
 pub struct Part {
     pub car: Car,
     pub written: usize,
@@ -132,6 +134,7 @@ fn write(record: &mut [u32], words: &[u32], copy: &mut [u32]) -> usize
     written
 }
 
+#[tactic(auto, using(kit::specs::Pick::picks), unfolding(crate::specs::Copy::uncopied_part))]
 fn uncopied(car: Car, refusal: u32) -> Part
     ensures { result ≡ uncopied_part car refusal }
 {
@@ -143,6 +146,7 @@ fn uncopied(car: Car, refusal: u32) -> Part
 }
 
 // What was written, with the car that the record behind it gives.
+#[tactic(auto, using(kit::specs::Pick::picks), unfolding(crate::specs::CopyShape::part_read))]
 fn done(car: Car, record: [u32; 12], written: usize) -> Part
     ensures { result ≡ part_read car written (read_of «record») }
 {
@@ -173,6 +177,7 @@ pub fn from_car(car: Car, words: &[u32], copy: &mut [u32]) -> Part
 }
 
 // The copy of a lesson from the fresh car of its settings. 17, then 19.
+#[tactic(auto, using(kit::specs::Pick::picks), unfolding(crate::specs::Copy::copy_of, crate::specs::Copy::copy_buffer, crate::specs::Copy::started_copy, crate::specs::Copy::unwritten, crate::specs::Copy::started_buffer))]
 pub fn of_lesson(mode: u32, signs: u32, words: &[u32], copy: &mut [u32]) -> Copied
     ensures { (result ≡ copy_of mode signs words.now copy.old) × (copy.new ≡ copy_buffer mode signs words.now copy.old) }
 {

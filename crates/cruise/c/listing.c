@@ -1,5 +1,6 @@
 /* Drives document 01's listing through the library, word by word, and prints a line for each event.
-   rt staticlib cruise && gcc -O2 -o target/listing crates/cruise/c/listing.c -Ltarget/staticlib -lcruise && target/listing */
+   (cd crates/cruise_c && rt lib) && mkdir -p target &&
+   gcc -O2 -o target/listing crates/cruise/c/listing.c crates/cruise_c/out/libcruise_c.a && target/listing */
 #include <inttypes.h>
 #include <stdio.h>
 

@@ -1,1 +1,2 @@
+pub mod CruiseLaws
 pub mod SignedNumber

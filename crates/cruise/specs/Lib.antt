@@ -1,2 +1,1 @@
 pub mod Cruise
-pub mod CruiseLaws

@@ -1,5 +1,7 @@
 // The car for programs in other languages (c/cruise.h). A car crosses as the twelve words of its record; every function gives the
 // refusal's number, or 0. Parameters are named as there; in a contract `record` is `«record»`, for antt has a word `record` of its own.
+#![tactic(auto, using(kit::specs::Pick::picks))]
+
 ghost use Rattle.std.specs.Prelude.{◌≡◌, ◌≤◌, eqb};
 ghost use Rattle.motion.specs.Acceleration.{signed};
 ghost use Rattle.kit.specs.Answer.{gives, refused, number_of};
@@ -21,8 +23,8 @@ use passing::Passed;
 use record::Reading;
 use sighting::{SeenWord, Sighting};
 
-#[unsafe(no_mangle)]
-pub extern "C" fn cruise_fresh(settings: u32, record: &mut [u32]) -> u32
+#[tactic(auto, using(kit::specs::Pick::picks), unfolding(crate::specs::Cruise::fresh_left))]
+pub fn cruise_fresh(settings: u32, record: &mut [u32]) -> u32
     ensures { ◌≡◌ {A = Left} (record { refusal = result; words = «record».new }) (fresh_left «record».old (start_of settings)) }
 {
     match settings::start(settings) {
@@ -31,8 +33,7 @@ pub extern "C" fn cruise_fresh(settings: u32, record: &mut [u32]) -> u32
     }
 }
 
-#[unsafe(no_mangle)]
-pub extern "C" fn cruise_lesson(
+pub fn cruise_lesson(
     record: &mut [u32],
     words: &[u32],
     answers: &mut [u32],
@@ -48,8 +49,8 @@ pub extern "C" fn cruise_lesson(
 }
 
 // A lesson of one word. Its answer word holds the word's refusal.
-#[unsafe(no_mangle)]
-pub extern "C" fn cruise_drive(record: &mut [u32], word: u32) -> u32
+#[tactic(auto, using(kit::specs::Pick::picks, crate::proofs::CruiseLaws::drive_refused, crate::proofs::CruiseLaws::drive_answered))]
+pub fn cruise_drive(record: &mut [u32], word: u32) -> u32
     ensures { ◌≡◌ {A = Left} (record { refusal = result; words = «record».new }) (drive_left «record».old (read_of «record».old) word) }
 {
     let mut answers = [0; 1];
@@ -63,8 +64,8 @@ pub extern "C" fn cruise_drive(record: &mut [u32], word: u32) -> u32
     answer.refusal
 }
 
-#[unsafe(no_mangle)]
-pub extern "C" fn cruise_test(record: &[u32]) -> u32
+#[tactic(auto, using(kit::specs::Pick::picks), unfolding(kit::specs::Answer::number_of))]
+pub fn cruise_test(record: &[u32]) -> u32
     ensures { result ≡ number_of (read_of «record».now) }
 {
     match record::read_from(record) {
@@ -73,6 +74,7 @@ pub extern "C" fn cruise_test(record: &[u32]) -> u32
     }
 }
 
+#[tactic(auto, using(kit::specs::Pick::picks), unfolding(crate::specs::Cruise::figures_read))]
 fn no_figures(refusal: u32) -> Figures
     ensures { result ≡ figures_read (refused refusal) }
 {
@@ -90,6 +92,7 @@ fn no_figures(refusal: u32) -> Figures
     }
 }
 
+#[tactic(auto, using(kit::specs::Pick::picks), unfolding(crate::specs::Cruise::figures_read))]
 fn figures(record: &[u32]) -> Figures
     ensures { result ≡ figures_read (read_of «record».now) }
 {
@@ -99,6 +102,7 @@ fn figures(record: &[u32]) -> Figures
     }
 }
 
+#[tactic(auto, using(kit::specs::Pick::picks, crate::proofs::SignedNumber::slows_signed, crate::proofs::SignedNumber::speeds_signed))]
 fn signed(a: Acceleration) -> i32
     requires { a.size ≤ 60 }
     ensures { result ≡ signed a }
@@ -110,8 +114,8 @@ fn signed(a: Acceleration) -> i32
     size
 }
 
-#[unsafe(no_mangle)]
-pub extern "C" fn cruise_figures(
+#[tactic(auto, using(kit::specs::Pick::picks, crate::proofs::CruiseLaws::dial_small), unfolding(crate::specs::Cruise::dials_of))]
+pub fn cruise_figures(
     record: &[u32],
     speed: &mut u32,
     desired: &mut u32,
@@ -134,6 +138,7 @@ pub extern "C" fn cruise_figures(
 }
 
 // Whether a car is alike to that of a second record.
+#[tactic(auto, using(kit::specs::Pick::picks), unfolding(crate::specs::Cruise::alike_answer))]
 fn compare(a: Car, b: Reading) -> u32
     ensures { result ≡ alike_answer (gives a) (reading_answer b) }
 {
@@ -143,8 +148,8 @@ fn compare(a: Car, b: Reading) -> u32
     }
 }
 
-#[unsafe(no_mangle)]
-pub extern "C" fn cruise_alike(a: &[u32], b: &[u32], alike: &mut u32) -> u32
+#[tactic(auto, using(kit::specs::Pick::picks), unfolding(crate::specs::Cruise::alike_refusal, crate::specs::Cruise::alike_answer))]
+pub fn cruise_alike(a: &[u32], b: &[u32], alike: &mut u32) -> u32
     ensures { (result ≡ alike_refusal (read_of a.now) (read_of b.now)) × (alike.new ≡ alike_answer (read_of a.now) (read_of b.now)) }
 {
     match record::read_from(a) {
@@ -159,14 +164,9 @@ pub extern "C" fn cruise_alike(a: &[u32], b: &[u32], alike: &mut u32) -> u32
     }
 }
 
-#[unsafe(no_mangle)]
-pub extern "C" fn cruise_copy(
-    settings: u32,
-    words: &[u32],
-    copy: &mut [u32],
-    written: &mut usize,
-) -> u32
-    ensures { (◌≡◌ {A = Copied} (record { written = written.exit.now; refusal = result }) (started_copy (start_of settings) words.now copy.old)) × (copy.new ≡ started_buffer (start_of settings) words.now copy.old) }
+#[tactic(auto, using(kit::specs::Pick::picks))]
+pub fn cruise_copy(settings: u32, words: &[u32], copy: &mut [u32], written: &mut usize) -> u32
+    ensures { (◌≡◌ {A = Copied} (record { written = written.new; refusal = result }) (started_copy (start_of settings) words.now copy.old)) × (copy.new ≡ started_buffer (start_of settings) words.now copy.old) }
 {
     let start = settings::start(settings);
     match start {
@@ -183,6 +183,7 @@ pub extern "C" fn cruise_copy(
 }
 
 // The number of an event, 0 for never.
+#[tactic(auto, using(kit::specs::Pick::picks), unfolding(passing::specs::Passing::event_number))]
 fn event_number(passed: Passed) -> usize
     ensures { result ≡ event_number passed }
 {
@@ -192,8 +193,8 @@ fn event_number(passed: Passed) -> usize
     }
 }
 
-#[unsafe(no_mangle)]
-pub extern "C" fn cruise_mark(
+#[tactic(auto, using(kit::specs::Pick::picks), unfolding(crate::specs::Cruise::mark_left))]
+pub fn cruise_mark(
     record: &[u32],
     words: &[u32],
     mark: u32,
@@ -219,6 +220,7 @@ pub extern "C" fn cruise_mark(
 }
 
 // The word of a sighting's event, by the sighting's kind.
+#[tactic(auto, using(kit::specs::Pick::picks), unfolding(crate::specs::Cruise::sighting_of, crate::specs::Cruise::handed_word, kit::specs::Pick::pick))]
 fn handed(kind: u32, metres: f32, kmh: f32) -> SeenWord
     ensures { seen_word_answer result ≡ handed_word (sighting_of kind metres kmh) }
 {
@@ -230,8 +232,8 @@ fn handed(kind: u32, metres: f32, kmh: f32) -> SeenWord
     }
 }
 
-#[unsafe(no_mangle)]
-pub extern "C" fn cruise_sighting(kind: u32, metres: f32, kmh: f32, word: &mut u32) -> u32
+#[tactic(auto, using(kit::specs::Pick::picks), unfolding(crate::specs::Cruise::sighting_left))]
+pub fn cruise_sighting(kind: u32, metres: f32, kmh: f32, word: &mut u32) -> u32
     ensures { ◌≡◌ {A = SightingLeft} (record { refusal = result; word = word.new }) (sighting_left (handed_word (sighting_of kind metres kmh))) }
 {
     match handed(kind, metres, kmh) {
@@ -260,8 +262,8 @@ fn first(refusal: u32, next: u32) -> u32
     refusal
 }
 
-#[unsafe(no_mangle)]
-pub extern "C" fn cruise_see(record: &mut [u32], kind: u32, metres: f32, kmh: f32) -> u32
+#[tactic(auto, using(kit::specs::Pick::picks, crate::proofs::CruiseLaws::see_driven, crate::proofs::CruiseLaws::see_fault, crate::proofs::CruiseLaws::see_refusal))]
+pub fn cruise_see(record: &mut [u32], kind: u32, metres: f32, kmh: f32) -> u32
     ensures { ◌≡◌ {A = Left} (record { refusal = result; words = «record».new }) (see_left «record».old (read_of «record».old) (sighting_of kind metres kmh)) }
 {
     match handed(kind, metres, kmh) {

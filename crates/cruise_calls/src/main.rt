@@ -5,6 +5,8 @@
 // Prints for each, but kind 1, its refusal (a lesson's counts behind it, and in a line its sixteen words for answers) and the thirteen
 // words; for each, of the words lent: the test's refusal; the figures' and the figures (of a the sign, 1 below 0, and the size); that of
 // alike and whether the words before the call are alike.
+#![tactic(auto)]
+
 ghost use Rattle.std.specs.Prelude.{◌≤◌};
 
 // A lesson's words start here in the program's own array.
@@ -25,14 +27,12 @@ fn has_size(n: i32, size: u32) -> bool
 
 // The size of a number, held to 99.
 fn size_of(n: i32) -> u32 {
-    let mut size = 0;
-    while size < 99 {
+    for size in 0..99 {
         if has_size(n, size) {
             return size;
         }
-        size += 1;
     }
-    size
+    99
 }
 
 fn signed(out: &mut [u8], at: usize, n: i32) -> usize {
@@ -40,7 +40,7 @@ fn signed(out: &mut [u8], at: usize, n: i32) -> usize {
 }
 
 // The index of the next word of the input and the index past the text.
-#[derive(Drop)]
+#[derive(Clone, Copy)]
 struct Place {
     next: usize,
     end: usize,
@@ -236,8 +236,7 @@ fn report(
 fn calls(out: &mut [u8], input: &[u32]) -> usize {
     let mut words = [UNUSED; 13];
     let mut place = Place { next: 0, end: 0 };
-    let mut left = input.len();
-    while left > 0 {
+    for _ in 0..input.len() {
         let kind = tester::word(input, place.next);
         if kind == 0 {
             return place.end;
@@ -247,19 +246,18 @@ fn calls(out: &mut [u8], input: &[u32]) -> usize {
         let before = words;
         place = lend(kind, size, place, out, input, &mut words);
         place.end = report(out, place.end, kind, size, &words, &before);
-        left -= 1;
     }
     place.end
 }
 
-fn main() {
+fn main(rt: HostRuntime) {
     let mut words = [0; 16384];
-    let input = tester::read_words(&mut words, b"cruise_calls: standard input");
+    let input = tester::read_words(&rt, &mut words, b"cruise_calls: standard input");
     if input.failed {
         return;
     }
     let mut out = [0; 131072];
     let count = input.count;
     let end = calls(&mut out, &words[0..count]);
-    tester::write(&out, end, b"cruise_calls: standard output");
+    tester::write(&rt, &out, end, b"cruise_calls: standard output");
 }

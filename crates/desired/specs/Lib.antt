@@ -1,2 +1,1 @@
 pub mod Desired
-pub mod DesiredLaws

@@ -1,5 +1,7 @@
 // The desired speed over plain numbers (document 01, "Rules of each event"): D by the up-down lever, moved and held, and by a sign; E.
 // `top` is the ceiling of D.
+#![tactic(auto, using(kit::specs::Pick::picks))]
+
 ghost use Rattle.std.specs.Prelude.{◌≡◌, ◌+◌, ◌-◌, min, max};
 ghost use Rattle.desired.specs.Desired.{up5, up7, down5, down7, stepped, long_held, held, manual_after, sign_desired};
 
@@ -28,24 +30,28 @@ fn lowered(a: u32, b: u64) -> u32
     most(10, a - b as u32)
 }
 
+#[tactic(auto, using(kit::specs::Pick::picks), unfolding(crate::specs::Desired::up5))]
 fn up5(top: u32, d: u32) -> u32
     ensures { result ≡ up5 top d }
 {
     raised(top, d, 10)
 }
 
+#[tactic(auto, using(kit::specs::Pick::picks), unfolding(crate::specs::Desired::up7))]
 fn up7(top: u32, d: u32) -> u32
     ensures { result ≡ up7 top d }
 {
     raised(top, d / 100 * 100, 100)
 }
 
+#[tactic(auto, using(kit::specs::Pick::picks), unfolding(crate::specs::Desired::down5))]
 fn down5(d: u32) -> u32
     ensures { result ≡ down5 d }
 {
     lowered(d, 10)
 }
 
+#[tactic(auto, using(kit::specs::Pick::picks), unfolding(crate::specs::Desired::down7, crate::specs::Desired::hundred_below))]
 fn down7(d: u32) -> u32
     ensures { result ≡ down7 d }
 {
@@ -53,6 +59,7 @@ fn down7(d: u32) -> u32
 }
 
 // D after a move to the position with cruise on.
+#[tactic(auto, using(kit::specs::Pick::picks), unfolding(crate::specs::Desired::stepped))]
 pub fn stepped(top: u32, position: u32, d: u32) -> u32
     ensures { result ≡ stepped top position d }
 {
@@ -65,6 +72,7 @@ pub fn stepped(top: u32, position: u32, d: u32) -> u32
 }
 
 // D after h seconds at the position, for h of 2 and more. The way that D has gone is worked out in 64 bits, so that no h is too large.
+#[tactic(auto, using(kit::specs::Pick::picks), unfolding(crate::specs::Desired::long_held))]
 pub fn long_held(top: u32, position: u32, base: u32, h: u32) -> u32
     ensures { result ≡ long_held top position base h }
 {
@@ -77,6 +85,7 @@ pub fn long_held(top: u32, position: u32, base: u32, h: u32) -> u32
 }
 
 // D after h seconds at the position that left the base.
+#[tactic(auto, using(kit::specs::Pick::picks), unfolding(crate::specs::Desired::held))]
 pub fn held(top: u32, position: u32, base: u32, h: u32) -> u32
     ensures { result ≡ held top position base h }
 {
@@ -87,6 +96,7 @@ pub fn held(top: u32, position: u32, base: u32, h: u32) -> u32
 }
 
 // E by the D that an event of the lever left.
+#[tactic(auto, using(kit::specs::Pick::picks), unfolding(crate::specs::Desired::manual_after))]
 pub fn manual_after(d: u32, e: u32) -> u32
     ensures { result ≡ manual_after d e }
 {
@@ -97,6 +107,7 @@ pub fn manual_after(d: u32, e: u32) -> u32
 }
 
 // D by a sign that acts, by its value, D and E.
+#[tactic(auto, using(kit::specs::Pick::picks), unfolding(crate::specs::Desired::sign_desired))]
 pub fn sign_desired(s: u32, d: u32, e: u32) -> u32
     ensures { result ≡ sign_desired s d e }
 {

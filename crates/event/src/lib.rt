@@ -1,4 +1,6 @@
 // Event words (document 01, "Event words"): a word is read into an event, and an event is written as its word.
+#![tactic(auto, using(kit::specs::Pick::picks))]
+
 ghost use Rattle.std.specs.Prelude.{◌≡◌, true, eqb, ◌≤◌};
 ghost use Rattle.event.specs.Words.{kind_of, input_kind, body_of, input_answer, reading_answer, writing_answer, permitted_gap, input_range, unnamed_of, judged, key_word, radar_word, inputs_of, input_of, ready_of, tick_word, read_of, bit_of, input_word, input_writing, write_of};
 
@@ -7,7 +9,7 @@ use number::bound;
 pub mod refusal;
 
 // What the pupil, the signs and the radar do: nine of the ten kinds of event, with the values that a word of the kind holds.
-#[derive(Drop)]
+#[derive(Clone, Copy)]
 pub enum Input {
     Key { position: u32, ready: bool },
     UpDown(u32),
@@ -21,28 +23,28 @@ pub enum Input {
 }
 
 // One of the nine, or a second of the clock.
-#[derive(Drop)]
+#[derive(Clone, Copy)]
 pub enum Event {
     Input(Input),
     Tick { ready: bool },
 }
 
 // What reading a word that is no tick gives: the input, or the number of the first check that holds.
-#[derive(Drop)]
+#[derive(Clone, Copy)]
 pub enum InputReading {
     Read(Input),
     Refused(u32),
 }
 
 // What reading a word gives: the event, or the number of the first check that holds.
-#[derive(Drop)]
+#[derive(Clone, Copy)]
 pub enum Reading {
     Read(Event),
     Refused(u32),
 }
 
 // What writing an event gives: its word, or the refusal.
-#[derive(Drop)]
+#[derive(Clone, Copy)]
 pub enum Writing {
     Word(u32),
     Refused(u32),
@@ -57,6 +59,7 @@ const TICK: u32 = 10;
 // A tick's bodies with no unnamed bit set are those below this.
 const TICK_BODIES: u32 = 2;
 
+#[tactic(auto, using(kit::specs::Pick::picks), unfolding(crate::specs::Words::read_of, crate::specs::Words::input_event))]
 pub fn read(word: u32) -> Reading
     ensures { reading_answer result ≡ read_of word }
 {
@@ -88,6 +91,7 @@ pub fn tick_ready(word: u32) -> bool
     word % KIND == 1
 }
 
+#[tactic(auto, using(kit::specs::Pick::picks), unfolding(crate::specs::Words::tick_word, crate::specs::Words::unnamed_of))]
 fn read_tick(word: u32) -> Reading
     ensures { reading_answer result ≡ tick_word (body_of word) }
 {
@@ -101,6 +105,7 @@ fn read_tick(word: u32) -> Reading
 }
 
 // The input of a word, or its refusal, for a word that is no tick.
+#[tactic(auto, using(kit::specs::Pick::picks), unfolding(crate::specs::Words::input_of))]
 pub fn read_input(word: u32) -> InputReading
     ensures { input_answer result ≡ input_of word }
 {
@@ -108,6 +113,7 @@ pub fn read_input(word: u32) -> InputReading
 }
 
 // The kinds beside the tick.
+#[tactic(auto, using(kit::specs::Pick::picks), unfolding(crate::specs::Words::inputs_of, crate::specs::Words::key_on_of))]
 fn read_kind(kind: u32, body: u32) -> InputReading
     ensures { input_answer result ≡ inputs_of kind body }
 {
@@ -126,6 +132,7 @@ fn read_kind(kind: u32, body: u32) -> InputReading
 }
 
 // The kind number of an input.
+#[tactic(auto, using(kit::specs::Pick::picks), unfolding(crate::specs::Words::input_kind))]
 pub fn kind(input: Input) -> u32
     ensures { result ≡ input_kind input }
 {
@@ -145,6 +152,7 @@ pub fn kind(input: Input) -> u32
     }
 }
 
+#[tactic(auto, using(kit::specs::Pick::picks), unfolding(crate::specs::Words::key_word))]
 fn key_word(body: u32) -> InputReading
     ensures { input_answer result ≡ key_word body }
 {
@@ -155,6 +163,7 @@ fn key_word(body: u32) -> InputReading
     judge(8, body, input)
 }
 
+#[tactic(auto, using(kit::specs::Pick::picks), unfolding(crate::specs::Words::radar_word))]
 fn radar_word(body: u32) -> InputReading
     ensures { input_answer result ≡ radar_word body }
 {
@@ -166,6 +175,7 @@ fn radar_word(body: u32) -> InputReading
 }
 
 // Check 2: 2 for a body with a bit at or above the named ones, else 0.
+#[tactic(auto, using(kit::specs::Pick::picks), unfolding(crate::specs::Words::unnamed_of))]
 fn unnamed(named: u32, body: u32) -> u32
     ensures { result ≡ unnamed_of named body }
 {
@@ -176,6 +186,7 @@ fn unnamed(named: u32, body: u32) -> u32
 }
 
 // Checks 2 and 3: an unnamed bit, and a value outside its range.
+#[tactic(auto, using(kit::specs::Pick::picks), unfolding(crate::specs::Words::judged, crate::specs::Words::unnamed_of))]
 fn judge(named: u32, body: u32, input: Input) -> InputReading
     ensures { input_answer result ≡ judged named body input }
 {
@@ -189,6 +200,7 @@ fn judge(named: u32, body: u32, input: Input) -> InputReading
     InputReading::Read(input)
 }
 
+#[tactic(auto, using(kit::specs::Pick::picks), unfolding(crate::specs::Words::input_range))]
 fn input_in_range(input: Input) -> bool
     ensures { result ≡ input_range input }
 {
@@ -206,12 +218,14 @@ fn input_in_range(input: Input) -> bool
 }
 
 // The gaps that may be chosen, in tenths of a second.
+#[tactic(auto, using(kit::specs::Pick::picks), unfolding(crate::specs::Words::permitted_gap))]
 pub fn permitted_gap(tenths: u32) -> bool
     ensures { result ≡ permitted_gap tenths }
 {
     (tenths == 20) | (tenths == 25) | (tenths == 30)
 }
 
+#[tactic(auto, using(kit::specs::Pick::picks), unfolding(crate::specs::Words::write_of, crate::specs::Words::in_range, crate::specs::Words::word_of, kit::specs::Pick::pick))]
 pub fn write(event: Event) -> Writing
     ensures { writing_answer result ≡ write_of event }
 {
@@ -230,6 +244,7 @@ fn write_input(input: Input) -> Writing
     Writing::Word(input_word(input))
 }
 
+#[tactic(auto, using(kit::specs::Pick::picks), unfolding(crate::specs::Words::input_word, crate::specs::Words::input_range, crate::specs::Words::permitted_gap))]
 fn input_word(input: Input) -> u32
     requires { input_range input ≡ true }
     ensures { result ≡ input_word input }
@@ -248,6 +263,7 @@ fn input_word(input: Input) -> u32
 }
 
 // A flag as a bit.
+#[tactic(auto, using(kit::specs::Pick::picks), unfolding(crate::specs::Words::bit_of))]
 pub fn bit(flag: bool) -> u32
     ensures { (result ≡ bit_of flag) × (result ≤ 1) }
 {

@@ -1,5 +1,7 @@
 // For each event word of standard input a line: the number by which it is refused, 0 to 3, and 1 if the event read from it is
 // written as the same word again (or if it was refused), else 0.
+#![tactic(auto)]
+
 use event::{Event, Reading, Writing};
 
 fn refusal(word: u32) -> u32 {
@@ -30,22 +32,20 @@ fn line(out: &mut [u8], at: usize, word: u32) -> usize {
 
 fn lines(out: &mut [u8], words: &[u32]) -> usize {
     let mut end = 0;
-    let mut i = 0;
-    while i < words.len() {
-        end = line(out, end, words[i]);
-        i += 1;
+    for word in words {
+        end = line(out, end, *word);
     }
     end
 }
 
-fn main() {
+fn main(rt: HostRuntime) {
     let mut words = [0; 16384];
-    let input = tester::read_words(&mut words, b"event_words: standard input");
+    let input = tester::read_words(&rt, &mut words, b"event_words: standard input");
     if input.failed {
         return;
     }
     let mut out = [0; 131072];
     let count = input.count;
     let end = lines(&mut out, &words[0..count]);
-    tester::write(&out, end, b"event_words: standard output");
+    tester::write(&rt, &out, end, b"event_words: standard output");
 }

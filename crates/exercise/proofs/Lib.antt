@@ -1,2 +1,4 @@
+pub mod ExerciseLaws
 pub mod Keeping
+pub mod PiecesLaws
 pub mod Turning

@@ -18,17 +18,17 @@ use Rattle.car.specs.declared.drive.Driven.{Driven}
 use Rattle.car.specs.declared.lesson.Taught.{Taught}
 use Rattle.car.specs.Good.{good_of}
 use Rattle.car.specs.Lesson.{answer_of, answers_of, each_of, speed_of, taught_of, trace_short, trace_of, trace_after}
-use Rattle.car.specs.LessonLaws.{each_length}
+use Rattle.car.proofs.LessonLaws.{each_length}
 use Rattle.settings.specs.SettingsWord.{start_of}
 use Rattle.wire.specs.Wire.{word_at, words_of}
 use Rattle.listing.specs.Listing.{lines_of, ascii, put_past, put_after, lines_refused, lines_past, lines_after}
-use Rattle.listing.specs.ListingLaws.{put_room}
+use Rattle.listing.proofs.ListingLaws.{put_room}
 use Rattle.exercise.specs.declared.Place.{Place}
 use Rattle.exercise.specs.declared.Stage.{Stage}
 use Rattle.exercise.specs.declared.Stage.TheVariants.{Awaited, Driving}
 use Rattle.exercise.specs.declared.Turned.{Turned}
 use Rattle.exercise.specs.Exercise.{head_text, events_text}
-use Rattle.exercise.specs.ExerciseLaws.{events_lines}
+use Rattle.exercise.proofs.ExerciseLaws.{events_lines}
 use Rattle.exercise.specs.Pieces.{Turn, idle, driven_turn, stuck, words_turn, events_turn, headed, started_turn, turn_of, close_text, turn_in, close_in, answered_at}
 
 -- ---- nothing is done

@@ -1,4 +1,2 @@
 pub mod Exercise
-pub mod ExerciseLaws
 pub mod Pieces
-pub mod PiecesLaws

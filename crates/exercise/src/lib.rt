@@ -1,6 +1,8 @@
 // The listing of an exercise file (document 01, "The cab, alike, and the program"), made piece by piece as its bytes come: `turn` for each
-// piece, `close` at the end. specs/Exercise.antt has the listing of a whole file, and specs/PiecesLaws.antt that the texts of the pieces, in order,
+// piece, `close` at the end. specs/Exercise.antt has the listing of a whole file, and proofs/PiecesLaws.antt that the texts of the pieces, in order,
 // are it.
+#![tactic(auto, using(kit::specs::Pick::picks))]
+
 ghost use Rattle.std.specs.Prelude.{true, ◌≡◌, ◌+◌, ◌≤◌, ◌++◌, length, drop};
 ghost use Rattle.car.specs.Good.{good_of};
 ghost use Rattle.kit.specs.Placed.{placed};
@@ -13,14 +15,14 @@ use car::{Car, Fresh};
 use event::refusal;
 
 // A lesson under way: the car, and the number of its next event.
-#[derive(Drop)]
+#[derive(Clone, Copy)]
 pub struct Place {
     car: Car,
     number: u64,
 }
 
 // How far a listing has come: the settings word has not, events are driven, or refused settings have ended it.
-#[derive(Drop)]
+#[derive(Clone, Copy)]
 pub enum Stage {
     Awaited,
     Driving(Place),
@@ -28,7 +30,7 @@ pub enum Stage {
 }
 
 // What a turn gives: the stage behind it, how many of its bytes it used, and where its text ends.
-#[derive(Drop)]
+#[derive(Clone, Copy)]
 pub struct Turned {
     pub stage: Stage,
     pub used: usize,
@@ -40,6 +42,7 @@ const WORDS: usize = 1024;
 
 const ROOM: usize = 65600;
 
+#[tactic(auto, using(kit::specs::Pick::picks), unfolding(crate::specs::Pieces::answered_at, crate::specs::Pieces::idle))]
 fn nothing_done(stage: Stage, at: usize) -> Turned
     ensures { result ≡ answered_at at (idle stage) }
 {
@@ -169,6 +172,7 @@ pub fn turn(stage: Stage, bytes: &[u8], out: &mut [u8]) -> Turned
     }
 }
 
+#[tactic(auto, using(kit::specs::Pick::picks), unfolding(crate::specs::Pieces::cut_text))]
 fn put_cut(held: usize, out: &mut [u8]) -> usize
     requires { 65600 ≤ length out.old }
     ensures { (result ≡ length (cut_text held)) × (out.new ≡ placed out.old 0 (cut_text held)) }

@@ -1,11 +1,3 @@
 pub mod Neighbours
-pub mod NeighbourLaws
 pub mod History
-pub mod HistoryLaws
-pub mod AcceptedLaws
 pub mod KeptDesired
-pub mod KeptDesiredLaws
-pub mod RoundaboutLaws
-pub mod BandLaws
-pub mod WarningLaws
-pub mod PedalsUpLaws

@@ -1,6 +1,6 @@
 -- What an answer says in the document's terms: a value, or the number of a refusal. Document 01, "Forms we want to see": "Where an
 -- answer is an enum, a definition gives this paper's number and values for each of its cases, and the promises use that definition."
--- Each enum of the code has that definition beside it, by the same name (`freshAnswer`, `readingAnswer`, ..).
+-- Each enum of the code has that definition beside it, by the same name (`fresh_answer`, `reading_answer`, ..).
 -- Assumes nothing.
 use Rattle.std.specs.Prelude.{ℕ}
 

@@ -1,20 +1,28 @@
 // The program `lesson` (document 01, "The cab, alike, and the program"): the listing of an exercise file, on standard output. The work is
 // `exercise`'s; here it is read and written, and no contract can say what comes in or goes out.
+#![tactic(auto)]
+
 ghost use Rattle.std.specs.Prelude.{◌≤◌, length};
 
 use command::Request;
+use console::Source;
 use exercise::Stage;
 
 // How far the listing has come, how many bytes are kept for the next piece, and whether there is more to do.
-#[derive(Drop)]
+#[derive(Clone, Copy)]
 struct Progress {
     stage: Stage,
     held: usize,
     more: bool,
 }
 
-fn write(text: &[u8]) -> bool {
-    console::write(text, b"lesson: standard output")
+fn write(rt: &HostRuntime, text: &[u8]) -> bool {
+    console::write(
+        &mut rt.stdout(),
+        &mut rt.stderr(),
+        text,
+        b"lesson: standard output",
+    )
 }
 
 fn has_ended(stage: Stage) -> bool {
@@ -26,13 +34,13 @@ fn has_ended(stage: Stage) -> bool {
 }
 
 // Works off a piece that has come behind the bytes kept, and keeps what is left of it.
-fn advance(progress: Progress, bytes: &mut [u8], out: &mut [u8]) -> Progress
+fn advance(rt: &HostRuntime, progress: Progress, bytes: &mut [u8], out: &mut [u8]) -> Progress
     ensures { result.held ≤ length bytes.new }
 {
     let stage = progress.stage;
     let turned = exercise::turn(stage, bytes, out);
     let end = turned.end;
-    let written = write(&out[0..end]);
+    let written = write(rt, &out[0..end]);
     let next = turned.stage;
     Progress {
         stage: next,
@@ -53,63 +61,66 @@ fn stop(progress: Progress) -> Progress
 }
 
 // The end of the file.
-fn finish(progress: Progress, out: &mut [u8]) {
+fn finish(rt: &HostRuntime, progress: Progress, out: &mut [u8]) {
     let stage = progress.stage;
     let end = exercise::close(stage, progress.held, out);
-    write(&out[0..end]);
+    write(rt, &out[0..end]);
 }
 
 // Reads the next piece, as much as has come, and works it off.
-fn step(input: i32, what: &[u8], progress: Progress, bytes: &mut [u8], out: &mut [u8]) -> Progress
+fn step(
+    rt: &HostRuntime,
+    input: &mut Source,
+    what: &[u8],
+    progress: Progress,
+    bytes: &mut [u8],
+    out: &mut [u8],
+) -> Progress
     requires { progress.held ≤ length bytes.old }
     ensures { result.held ≤ length bytes.new }
 {
     let held = progress.held;
-    let piece = console::read(input, &mut bytes[held..], what);
+    let piece = console::read(input, &mut rt.stderr(), &mut bytes[held..], what);
     if piece.failed {
         return stop(progress);
     }
     if piece.count == 0 {
-        finish(progress, out);
+        finish(rt, progress, out);
         return stop(progress);
     }
     let count = held + piece.count;
-    advance(progress, &mut bytes[0..count], out)
+    advance(rt, progress, &mut bytes[0..count], out)
 }
 
 // Piece after piece, to the end: the count of pieces only falls because nothing says that an input ends.
-fn pieces(input: i32, what: &[u8], bytes: &mut [u8], out: &mut [u8]) {
+fn pieces(rt: &HostRuntime, input: &mut Source, what: &[u8], bytes: &mut [u8], out: &mut [u8]) {
     let mut progress = Progress {
         stage: Stage::Awaited,
         held: 0,
         more: true,
     };
-    let mut left = u64::MAX;
-    while left > 0 {
-        progress = step(input, what, progress, bytes, out);
+    for _ in 0..u64::MAX {
+        progress = step(rt, input, what, progress, bytes, out);
         if !progress.more {
             return;
         }
-        left -= 1;
     }
 }
 
-// Lists the file that a descriptor reads; `what` is the program and the file's name.
-fn list(input: i32, what: &[u8]) {
+// Lists an input; `what` is the program and the input's name.
+fn list(rt: &HostRuntime, input: &mut Source, what: &[u8]) {
     let mut bytes = [0u8; 4096];
     let mut out = [0u8; 65600];
-    pieces(input, what, &mut bytes, &mut out);
+    pieces(rt, input, what, &mut bytes, &mut out);
 }
 
-fn usage() {
-    io::write_all(
-        libc::STDERR_FILENO,
-        b"usage: lesson [FILE] (lesson --help says more)\n",
-    );
+fn usage(rt: &HostRuntime) {
+    let _ = eprintln!(rt; "usage: lesson [FILE] (lesson --help says more)");
 }
 
-fn help() {
+fn help(rt: &HostRuntime) {
     write(
+        rt,
         b"usage: lesson [FILE]
 Drives a fresh car through an exercise and prints a line for each event.
 FILE, or standard input, holds 32-bit words, lowest byte first: a settings word
@@ -129,19 +140,16 @@ docs/REFERENCE.md has every word, refusal and figure.
     );
 }
 
-fn run(what: &mut [u8]) {
-    match command::asked(b"lesson: ", what) {
-        Request::Input(input, end) => {
-            list(input, &what[0..end]);
-            libc::close(input);
-        }
-        Request::Help => help(),
-        Request::Usage => usage(),
+fn run(rt: &HostRuntime, what: &mut [u8]) {
+    match command::asked(rt, b"lesson: ", what) {
+        Request::Input(mut input, end) => list(rt, &mut input, &what[0..end]),
+        Request::Help => help(rt),
+        Request::Usage => usage(rt),
         Request::Nothing => {}
     }
 }
 
-fn main() {
+fn main(rt: HostRuntime) {
     let mut what = [0u8; 4104];
-    run(&mut what);
+    run(&rt, &mut what);
 }

@@ -9,8 +9,8 @@ use lib.ListN.{length}
 use Rattle.kit.specs.Pick.{pick, picks}
 use Rattle.kit.specs.Placed.{placed}
 use Rattle.listing.specs.Listing.{decimal_of, lines_of, ascii, number_line, put_past, put_after, lines_refused, lines_past, lines_after}
-use Rattle.listing.specs.ListingLaws.{decimal_length}
-use Rattle.listing.specs.PutLaws.{was_put, put_same, put_then}
+use Rattle.listing.proofs.ListingLaws.{decimal_length}
+use Rattle.listing.proofs.PutLaws.{was_put, put_same, put_then}
 
 -- ---- put_text, put_decimal, put_number_line
 module _ (out : List ℕ) (at most : ℕ) (text : List ℕ) where

@@ -6,7 +6,7 @@ use Prim.Native.Nat.{ℕ, ◌/◌, ◌%◌, ◌≤◌, ◌<◌}
 use native.Mathlib.Nat.{div-div-eq-div-mul}
 use native.Mathlib.Omega.{arith}
 use Rattle.listing.specs.Listing.{digit, decimal_of}
-use Rattle.listing.specs.ListingLaws.{decimal_one, decimal_more}
+use Rattle.listing.proofs.ListingLaws.{decimal_one, decimal_more}
 use Rattle.listing.specs.Put.{two_of, four_of, eight_of}
 
 pub decimal_two : (n : ℕ) → 10 ≤ n → n < 100 → decimal_of n ≡ two_of n

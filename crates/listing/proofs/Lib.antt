@@ -1,4 +1,6 @@
 pub mod Answers
 pub mod Going
 pub mod Groups
+pub mod ListingLaws
+pub mod PutLaws
 pub mod Putting

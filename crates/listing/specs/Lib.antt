@@ -1,4 +1,2 @@
 pub mod Listing
-pub mod ListingLaws
 pub mod Put
-pub mod PutLaws

@@ -1,5 +1,7 @@
 // The printed listing (document 01, "The cab, alike, and the program"): text, numbers and lines in a lent slice of bytes. Each function answers
 // the index past what it put; where there is too little room for it nothing is put and the index is the one handed in.
+#![tactic(auto, using(kit::specs::Pick::picks))]
+
 ghost use Rattle.std.specs.Prelude.{◌≡◌};
 ghost use Rattle.listing.specs.Listing.{lines_past, lines_after};
 

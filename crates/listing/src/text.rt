@@ -54,6 +54,7 @@ pub fn put_number_line(out: &mut [u8], at: usize, name: &[u8], n: u64) -> usize
 }
 
 // "refused", a refusal's number and the end of the line. Room is 29 bytes.
+#[tactic(auto, using(kit::specs::Pick::picks), unfolding(crate::specs::Listing::ascii, crate::specs::Listing::refused_text))]
 pub fn put_refused(out: &mut [u8], at: usize, refusal: u32) -> usize
     ensures { (result ≡ put_past out.old at 29 (refused_text refusal)) × (out.new ≡ put_after out.old at 29 (refused_text refusal)) }
 {

@@ -1,37 +1,51 @@
 // The program `mark` (document 02, §5): the event of an exercise file that passed a mark, and the seconds at or above it, on standard output. The
 // work is `marking`'s; here it is read and written, and no contract can say what comes in or goes out.
+#![tactic(auto)]
+
 ghost use Rattle.std.specs.Prelude.{◌≤◌, length};
 
 use car::Fresh;
 use command::Request;
-use libc::STDERR_FILENO;
+use console::Source;
 use marking::Stage;
 
 // How far the lesson has come, how many bytes are kept for the next piece, and whether there is more to do.
-#[derive(Drop)]
+#[derive(Clone, Copy)]
 struct Progress {
     stage: Stage,
     held: usize,
     more: bool,
 }
 
-fn write(text: &[u8]) -> bool {
-    console::write(text, b"mark: standard output")
+fn write(rt: &HostRuntime, text: &[u8]) -> bool {
+    console::write(
+        &mut rt.stdout(),
+        &mut rt.stderr(),
+        text,
+        b"mark: standard output",
+    )
+}
+
+// The line of a refusal; the index past it.
+fn put_refused(line: &mut [u8; 29], refusal: u32) -> usize
+    ensures { result ≤ 29 }
+{
+    listing::put_refused(line, 0, refusal)
 }
 
 // The line of a refused settings word.
-fn refuse(refusal: u32) {
+fn refuse(rt: &HostRuntime, refusal: u32) {
     let mut line = [0u8; 29];
-    let end = listing::put_refused(&mut line, 0, refusal);
-    write(&line[0..end]);
+    let end = put_refused(&mut line, refusal);
+    write(rt, &line[0..end]);
 }
 
 // The result, at the end of the file.
-fn finish(progress: Progress) {
+fn finish(rt: &HostRuntime, progress: Progress) {
     let stage = progress.stage;
     let mut text = [0u8; 85];
     let end = marking::put_result(stage, progress.held, &mut text);
-    write(&text[0..end]);
+    write(rt, &text[0..end]);
 }
 
 // Works off a piece that has come behind the bytes kept, and keeps what is left of it.
@@ -60,17 +74,24 @@ fn stop(progress: Progress) -> Progress
 }
 
 // Reads the next piece, as much as has come, and works it off.
-fn step(input: i32, what: &[u8], mark: u32, progress: Progress, bytes: &mut [u8]) -> Progress
+fn step(
+    rt: &HostRuntime,
+    input: &mut Source,
+    what: &[u8],
+    mark: u32,
+    progress: Progress,
+    bytes: &mut [u8],
+) -> Progress
     requires { progress.held ≤ length bytes.old }
     ensures { result.held ≤ length bytes.new }
 {
     let held = progress.held;
-    let piece = console::read(input, &mut bytes[held..], what);
+    let piece = console::read(input, &mut rt.stderr(), &mut bytes[held..], what);
     if piece.failed {
         return stop(progress);
     }
     if piece.count == 0 {
-        finish(progress);
+        finish(rt, progress);
         return stop(progress);
     }
     let count = held + piece.count;
@@ -78,51 +99,54 @@ fn step(input: i32, what: &[u8], mark: u32, progress: Progress, bytes: &mut [u8]
 }
 
 // Piece after piece, to the end: the count of pieces only falls because nothing says that an input ends.
-fn pieces(input: i32, what: &[u8], mark: u32, stage: Stage, bytes: &mut [u8]) {
+fn pieces(
+    rt: &HostRuntime,
+    input: &mut Source,
+    what: &[u8],
+    mark: u32,
+    stage: Stage,
+    bytes: &mut [u8],
+) {
     let mut progress = Progress {
         stage: stage,
         held: 0,
         more: true,
     };
-    let mut left = u64::MAX;
-    while left > 0 {
-        progress = step(input, what, mark, progress, bytes);
+    for _ in 0..u64::MAX {
+        progress = step(rt, input, what, mark, progress, bytes);
         if !progress.more {
             return;
         }
-        left -= 1;
     }
 }
 
 // The words behind the settings word.
-fn mark_events(input: i32, what: &[u8], mark: u32, stage: Stage) {
+fn mark_events(rt: &HostRuntime, input: &mut Source, what: &[u8], mark: u32, stage: Stage) {
     let mut bytes = [0u8; 4096];
-    pieces(input, what, mark, stage, &mut bytes);
+    pieces(rt, input, what, mark, stage, &mut bytes);
 }
 
-// The mark of the file that a descriptor reads; `what` is the program and the file's name.
-fn mark_file(input: i32, what: &[u8], mark: u32) {
+// The mark of an input; `what` is the program and the input's name.
+fn mark_file(rt: &HostRuntime, input: &mut Source, what: &[u8], mark: u32) {
     let mut first = [0u8; 4];
-    let got = console::read_all(input, &mut first, what);
+    let got = console::read_all(input, &mut rt.stderr(), &mut first, what);
     if got.failed {
         return;
     }
     let count = got.count;
     match cleaning::open(&first[0..count]) {
-        Fresh::Made(car) => mark_events(input, what, mark, marking::start(car)),
-        Fresh::Refused(n) => refuse(n),
+        Fresh::Made(car) => mark_events(rt, input, what, mark, marking::start(car)),
+        Fresh::Refused(n) => refuse(rt, n),
     }
 }
 
-fn usage() {
-    io::write_all(
-        STDERR_FILENO,
-        b"usage: mark MARK [FILE] (mark --help says more)\n",
-    );
+fn usage(rt: &HostRuntime) {
+    let _ = eprintln!(rt; "usage: mark MARK [FILE] (mark --help says more)");
 }
 
-fn help() {
+fn help(rt: &HostRuntime) {
     write(
+        rt,
         b"usage: mark MARK [FILE]
 Finds the event of an exercise that passed a speed mark, and counts the seconds
 that ended at or above it.
@@ -142,21 +166,17 @@ docs/REFERENCE.md has every word and refusal.
     );
 }
 
-fn run(what: &mut [u8]) {
-    let asked = command::asked_mark(b"mark: ", what);
-    let request = asked.request;
-    match request {
-        Request::Input(input, end) => {
-            mark_file(input, &what[0..end], asked.mark);
-            libc::close(input);
-        }
-        Request::Help => help(),
-        Request::Usage => usage(),
+fn run(rt: &HostRuntime, what: &mut [u8]) {
+    let asked = command::asked_mark(rt, b"mark: ", what);
+    match asked.request {
+        Request::Input(mut input, end) => mark_file(rt, &mut input, &what[0..end], asked.mark),
+        Request::Help => help(rt),
+        Request::Usage => usage(rt),
         Request::Nothing => {}
     }
 }
 
-fn main() {
+fn main(rt: HostRuntime) {
     let mut what = [0u8; 4104];
-    run(&mut what);
+    run(&rt, &mut what);
 }

@@ -1,2 +1,3 @@
+pub mod PiecesLaws
 pub mod Turning
 pub mod Writing

@@ -22,7 +22,7 @@ use Rattle.passing.specs.Passing.{event_number, later, onward, passed_of, count_
 use Rattle.marking.specs.declared.Stage.{Stage}
 use Rattle.marking.specs.declared.Turned.{Turned}
 use Rattle.marking.specs.Pieces.{page_of, further_of, stuck, idle, words_turn}
-use Rattle.marking.specs.PiecesLaws.{seconds_few, goes}
+use Rattle.marking.proofs.PiecesLaws.{seconds_few, goes}
 
 -- ---- the number of an event lies within its lesson
 later_number : (k : ℕ) (q : Passed) → event_number (later k q) ≤ k + event_number q

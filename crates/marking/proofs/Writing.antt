@@ -11,7 +11,7 @@ use Rattle.kit.specs.Pick.{pick_true, pick_false}
 use Rattle.kit.specs.Placed.{placed, placed_nothing}
 use Rattle.listing.specs.Listing.{refused_text}
 use Rattle.listing.specs.Put.{Put}
-use Rattle.listing.specs.PutLaws.{put_then}
+use Rattle.listing.proofs.PutLaws.{put_then}
 use Rattle.cleaning.specs.Cleaning.{end_refusal}
 use Rattle.marking.specs.declared.Stage.{Stage}
 use Rattle.marking.specs.Marking.{passed_text, seconds_text, refusal_text, result_text}

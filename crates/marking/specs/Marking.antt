@@ -1,4 +1,4 @@
--- The mark of an exercise file, from its bytes: document 02, §5, for instructors. `passedOf` is the event that passed the mark, `secondsOf` the seconds
+-- The mark of an exercise file, from its bytes: document 02, §5, for instructors. `passed_of` is the event that passed the mark, `seconds_of` the seconds
 -- that ended at or above it. Text is a list of ASCII codes.
 -- Assumes nothing.
 use Rattle.std.specs.Prelude.{List, [], ◌++◌, ℕ, ◌%◌, eqb, length, drop}

@@ -1,5 +1,7 @@
 // The mark of an exercise file (document 02, §5), found piece by piece as its bytes come: `start` with the car of its settings word, `turn` for each
-// piece behind that, `put_result` at the end. specs/Marking.antt has the text of a whole file, and specs/PiecesLaws.antt that the pieces give it.
+// piece behind that, `put_result` at the end. specs/Marking.antt has the text of a whole file, and proofs/PiecesLaws.antt that the pieces give it.
+#![tactic(auto, using(kit::specs::Pick::picks))]
+
 ghost use Rattle.std.specs.Prelude.{◌≡◌, ◌+◌, ◌≤◌, length};
 ghost use Rattle.kit.specs.Placed.{placed};
 ghost use Rattle.listing.specs.Put.{Put};
@@ -12,7 +14,7 @@ use car::Car;
 use passing::{Marked, Passed};
 
 // How far a lesson has come: its car, its events so far, the one that passed the mark, and the seconds that ended at or above it.
-#[derive(Drop)]
+#[derive(Clone, Copy)]
 pub struct Stage {
     car: Car,
     events: usize,
@@ -21,7 +23,7 @@ pub struct Stage {
 }
 
 // What a turn gives: the stage behind it, and how many of its bytes it used.
-#[derive(Drop)]
+#[derive(Clone, Copy)]
 pub struct Turned {
     pub stage: Stage,
     pub used: usize,
@@ -34,6 +36,7 @@ const WORDS: usize = 1024;
 const ROOM: usize = 85;
 
 // Before the first event.
+#[tactic(auto, using(kit::specs::Pick::picks), unfolding(crate::specs::Pieces::fresh_stage))]
 pub fn start(car: Car) -> Stage
     ensures { result ≡ fresh_stage car }
 {
@@ -46,6 +49,7 @@ pub fn start(car: Car) -> Stage
 }
 
 // The number of an event, moved by the events before.
+#[tactic(auto, using(kit::specs::Pick::picks), unfolding(passing::specs::Passing::event_number, passing::specs::Passing::later))]
 fn moved(passed: Passed, events: usize) -> Passed
     requires { events + event_number passed ≤ 18446744073709551615 }
     ensures { result ≡ later events passed }
@@ -100,6 +104,7 @@ fn drive(stage: Stage, words: &[u32], mark: u32) -> Marked
     }
 }
 
+#[tactic(auto, using(kit::specs::Pick::picks), unfolding(crate::specs::Pieces::idle))]
 fn nothing_done(stage: Stage) -> Turned
     ensures { result ≡ idle stage }
 {

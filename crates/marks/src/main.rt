@@ -3,6 +3,8 @@
 // 3 mark cut length words, an exercise file of so many bytes, handed over in pieces of that cut; 0 ends.
 // Prints for a record the refusal, the event (0 for never) and the seconds; for a car the same, then its fields afterwards, the search's refusal and
 // event, and the count's refusal and seconds; for a file the text of its mark.
+#![tactic(auto)]
+
 ghost use Rattle.std.specs.Prelude.{◌≤◌, length};
 
 use car::{Car, Fresh};
@@ -16,7 +18,7 @@ const START: usize = 3;
 const MOST: usize = 3072;
 
 // The index of the next word of the input and the index past the text.
-#[derive(Drop)]
+#[derive(Clone, Copy)]
 struct Place {
     next: usize,
     end: usize,
@@ -205,27 +207,25 @@ fn case(kind: u32, place: Place, out: &mut [u8], input: &[u32]) -> Place {
 // As many cases as there are words at most: each takes one.
 fn cases(out: &mut [u8], input: &[u32]) -> usize {
     let mut place = Place { next: 0, end: 0 };
-    let mut left = input.len();
-    while left > 0 {
+    for _ in 0..input.len() {
         let kind = tester::word(input, place.next);
         if kind == 0 {
             return place.end;
         }
         place.next = tester::past(input, place.next, 1);
         place = case(kind, place, out, input);
-        left -= 1;
     }
     place.end
 }
 
-fn main() {
+fn main(rt: HostRuntime) {
     let mut words = [0; 32768];
-    let input = tester::read_words(&mut words, b"marks: standard input");
+    let input = tester::read_words(&rt, &mut words, b"marks: standard input");
     if input.failed {
         return;
     }
     let mut out = [0; 32768];
     let count = input.count;
     let end = cases(&mut out, &words[0..count]);
-    tester::write(&out, end, b"marks: standard output");
+    tester::write(&rt, &out, end, b"marks: standard output");
 }

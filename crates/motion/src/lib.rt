@@ -1,6 +1,8 @@
 // The acceleration a, in tenths of m/s², over plain numbers (document 01, "Rules of each event"). The code works with a + 60, the code that an
 // answer word has of it: one number without a sign. Its terms and the speed after a second have products, which need the ranges of a good
 // car, so their code is the car's own; their definitions and laws stand here.
+#![tactic(auto, using(kit::specs::Pick::picks))]
+
 ghost use Rattle.std.specs.Prelude.{◌≡◌, ◌+◌, ◌-◌};
 ghost use Rattle.motion.specs.Acceleration.{backed_off, target, acceleration_code};
 ghost use Rattle.motion.specs.AccelerationShape.{decoded};
@@ -9,7 +11,7 @@ ghost use Rattle.motion.specs.Speed.{at_most};
 use number::least;
 
 // A signed number as its sign and size; 0 does not slow.
-#[derive(Drop)]
+#[derive(Clone, Copy)]
 pub struct Acceleration {
     pub slows: bool,
     pub size: u32,
@@ -22,6 +24,7 @@ pub fn apart(a: u32, b: u32) -> u32
     if a < b { b - a } else { a - b }
 }
 
+#[tactic(auto, using(kit::specs::Pick::picks), unfolding(crate::specs::AccelerationShape::decoded))]
 pub fn decoded(code: u32) -> Acceleration
     ensures { result ≡ decoded code }
 {
@@ -31,6 +34,7 @@ pub fn decoded(code: u32) -> Acceleration
     }
 }
 
+#[tactic(auto, using(kit::specs::Pick::picks, crate::proofs::AccelerationShapeLaws::backing))]
 pub fn backed_off(speed: u32) -> u32
     ensures { result ≡ acceleration_code (backed_off speed) }
 {
@@ -40,6 +44,7 @@ pub fn backed_off(speed: u32) -> u32
     60
 }
 
+#[tactic(auto, using(kit::specs::Pick::picks), unfolding(crate::specs::Acceleration::target))]
 pub fn target(ahead: bool, desired: u32, lead: u32) -> u32
     ensures { result ≡ target ahead desired lead }
 {
@@ -49,6 +54,7 @@ pub fn target(ahead: bool, desired: u32, lead: u32) -> u32
     desired
 }
 
+#[tactic(auto, using(kit::specs::Pick::picks), unfolding(crate::specs::Speed::at_most))]
 pub fn at_most(on: bool, most: u32, speed: u32) -> u32
     ensures { result ≡ at_most on most speed }
 {

@@ -1,4 +1,6 @@
 // Whole numbers: the smaller, the larger, and a difference that stops at 0.
+#![tactic(auto)]
+
 ghost use Rattle.std.specs.Prelude.{◌≡◌, ◌-◌, min, max};
 
 pub mod bound;

@@ -15,21 +15,21 @@ use Rattle.kit.specs.Pick.{pick_true, pick_false}
 use Rattle.car.specs.declared.Car.{Car}
 use Rattle.car.specs.Good.{good_of}
 use Rattle.car.specs.Lesson.{driven, answer_of, answers_of, accepted_of, refused_of}
-use Rattle.car.specs.LessonLaws.{driven_good, counts_all, each_length}
+use Rattle.car.proofs.LessonLaws.{driven_good, counts_all, each_length}
 use Rattle.car.specs.Mark.{seconds_of, searched, found, ran_of, run_of, run_after}
-use Rattle.car.specs.MarkLaws.{searched_0, searched_few}
+use Rattle.car.proofs.MarkLaws.{searched_0, searched_few}
 use Rattle.record.specs.declared.Written.{Written}
 use Rattle.record.specs.Layout.{packed, unpacked}
 use Rattle.record.specs.Record.{read_of, write_of}
-use Rattle.record.specs.RecordLaws.{own_record, packed_read, written_no, written_record}
+use Rattle.record.proofs.RecordLaws.{own_record, packed_read, written_no, written_record}
 use Rattle.record.specs.RecordLesson.{RunLeft, run_left}
-use Rattle.history.specs.HistoryLaws.{driven_append}
+use Rattle.history.proofs.HistoryLaws.{driven_append}
 use Rattle.passing.specs.declared.Find.{Find}
 use Rattle.passing.specs.declared.Passed.{Passed}
 use Rattle.passing.specs.declared.Passed.TheVariants.{At, Never}
 use Rattle.passing.specs.Passing.{passed_of, later, onward, search_of, count_of, mark_of}
 use Rattle.passing.specs.PassingShape.{find_of, behind_of, car_of}
-use Rattle.passing.specs.PassingLaws.{passed_append, seconds_append, seconds_accepted, searched_prefix, searched_append, searched_stops}
+use Rattle.passing.proofs.PassingLaws.{passed_append, seconds_append, seconds_accepted, searched_prefix, searched_append, searched_stops}
 
 -- as many seconds as words, at most
 few_seconds : (mark : ℕ) (c : Car) (ws : List ℕ) → seconds_of mark c ws ≤ length ws

@@ -1,4 +1,4 @@
--- The event that passed a mark, and the seconds at or above it: document 02, §5. `passes` and `secondsOf` (car, Mark.antt) say of which words.
+-- The event that passed a mark, and the seconds at or above it: document 02, §5. `passes` and `seconds_of` (car, Mark.antt) say of which words.
 -- Assumes nothing.
 use Rattle.std.specs.Prelude.{List, [], ◌∷◌, ℕ, ◌+◌}
 use Rattle.kit.specs.Pick.{pick}

@@ -1,5 +1,7 @@
 // The event that passed a mark, and the seconds at or above it (document 02, §5), of a lent lesson from a car handed in. The words are driven part
 // by part, since nothing is lent for their answers; the car is carried as its record.
+#![tactic(auto, using(kit::specs::Pick::picks))]
+
 ghost use Rattle.std.specs.Prelude.{◌≡◌, ◌+◌, ◌≤◌, ◌<◌};
 ghost use Rattle.kit.specs.Answer.{gives};
 ghost use Rattle.car.specs.Lesson.{driven};
@@ -13,21 +15,21 @@ use car::Car;
 use record::Reading;
 
 // The number of the event that passed the mark, counted from 1, refused ones too; or never.
-#[derive(Drop)]
+#[derive(Clone, Copy)]
 pub enum Passed {
     At(usize),
     Never,
 }
 
 // The event that passed the mark, and the refusal, 0 or 18.
-#[derive(Drop)]
+#[derive(Clone, Copy)]
 pub struct First {
     pub passed: Passed,
     pub refusal: u32,
 }
 
 // The seconds that ended at or above the mark, the car behind the lesson, and the refusal, 0 or 18.
-#[derive(Drop)]
+#[derive(Clone, Copy)]
 pub struct Counted {
     pub car: Car,
     pub seconds: usize,
@@ -35,7 +37,7 @@ pub struct Counted {
 }
 
 // Both.
-#[derive(Drop)]
+#[derive(Clone, Copy)]
 pub struct Marked {
     pub car: Car,
     pub passed: Passed,
@@ -44,7 +46,7 @@ pub struct Marked {
 }
 
 // What a search gives: the number of its find, and the seconds up to it.
-#[derive(Drop)]
+#[derive(Clone, Copy)]
 struct Find {
     passed: Passed,
     seconds: usize,
@@ -111,6 +113,7 @@ fn count(record: &mut [u32], words: &[u32], mark: u32) -> usize
 }
 
 // The index of the first word that a search has not driven.
+#[tactic(auto, using(kit::specs::Pick::picks), unfolding(crate::specs::PassingShape::behind_of))]
 fn behind(passed: Passed, end: usize) -> usize
     ensures { result ≡ behind_of passed end }
 {
@@ -121,6 +124,7 @@ fn behind(passed: Passed, end: usize) -> usize
 }
 
 // The car of a record; the other one where there is none.
+#[tactic(auto, using(kit::specs::Pick::picks), unfolding(crate::specs::PassingShape::car_of))]
 fn car_of(record: [u32; 12], other: Car) -> Car
     ensures { result ≡ car_of (read_of «record») other }
 {

@@ -15,11 +15,12 @@ use Rattle.car.specs.Mark.{run_of, run_after}
 use Rattle.record.specs.declared.RunOutcome.{RunOutcome}
 use Rattle.record.specs.declared.Written.{Written}
 use Rattle.record.specs.Layout.{packed, unpacked}
-use Rattle.record.specs.LayoutLaws.{Fits, packed_length}
+use Rattle.record.specs.LayoutShape.{Fits}
+use Rattle.record.proofs.LayoutLaws.{packed_length}
 use Rattle.record.specs.Record.{same_words, write_of, read_of, saved_refusal, saved_buffer}
-use Rattle.record.specs.RecordLaws.{same_eq, not_accepted, written_yes, written_no, written_twelve}
+use Rattle.record.proofs.RecordLaws.{same_eq, not_accepted, written_yes, written_no, written_twelve}
 use Rattle.record.specs.RecordLesson.{RunLeft, run_left, ran_left}
-use Rattle.record.specs.RecordLessonLaws.{run_fits, left_none, left_some, left_marked, left_unread}
+use Rattle.record.proofs.RecordLessonLaws.{run_fits, left_none, left_some, left_marked, left_unread}
 
 pub write_yes : (c : Car) (p : List ℕ) → good_of c ≡ true → p ≡ packed c → record { refusal = 0; words = p } ≡ write_of c
 unfolding write_of

@@ -1,7 +1,5 @@
 pub mod Accepted
 pub mod Layout
-pub mod LayoutLaws
+pub mod LayoutShape
 pub mod Record
 pub mod RecordLesson
-pub mod RecordLaws
-pub mod RecordLessonLaws

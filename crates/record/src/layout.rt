@@ -1,7 +1,7 @@
 // The layout of the twelve words. Each starts with the mark 11 and its place: hexadecimal B0 to BB.
 ghost use Rattle.std.specs.Prelude.{◌≡◌};
 ghost use Rattle.record.specs.Layout.{packed, unpacked, word_of};
-ghost use Rattle.record.specs.LayoutLaws.{Fits};
+ghost use Rattle.record.specs.LayoutShape.{Fits};
 
 use car::{Car, Cruise, Levers, Limiter, Pedals, RangeRadar, Settings};
 use event::bit;
@@ -28,6 +28,7 @@ fn first_word(car: Car) -> u32
         + ready * 8192
 }
 
+#[tactic(auto, using(kit::specs::Pick::picks), unfolding(crate::specs::Layout::packed))]
 pub(crate) fn pack(car: Car) -> [u32; 12]
     requires { Fits car }
     ensures { result ≡ packed car }
@@ -49,6 +50,7 @@ pub(crate) fn pack(car: Car) -> [u32; 12]
 }
 
 // The car that the words' fields say, whatever else they hold.
+#[tactic(auto, using(kit::specs::Pick::picks), unfolding(crate::specs::Layout::unpacked, crate::specs::Layout::car_of))]
 pub(crate) fn unpack(words: [u32; 12]) -> Car
     ensures { result ≡ unpacked words }
 {

@@ -1,7 +1,9 @@
 // A car's record (document 01, "The record"): twelve words, written from a good car and read back.
+#![tactic(auto, using(kit::specs::Pick::picks))]
+
 ghost use Rattle.std.specs.Prelude.{false, ◌≡◌, ◌++◌, ◌≤◌, length, drop};
 ghost use Rattle.record.specs.Layout.{packed};
-ghost use Rattle.record.specs.LayoutLaws.{Fits};
+ghost use Rattle.record.specs.LayoutShape.{Fits};
 ghost use Rattle.record.specs.Record.{reading_answer, read_of, write_of, saved_refusal, saved_buffer};
 ghost use Rattle.record.specs.RecordLesson.{LessonLeft, lesson_left, RunLeft, run_left, ran_left};
 
@@ -12,14 +14,14 @@ mod layout;
 mod words;
 
 // What writing gives: the words of a good car, or the refusal and zeros.
-#[derive(Drop)]
+#[derive(Clone, Copy)]
 pub struct Written {
     pub refusal: u32,
     pub words: [u32; 12],
 }
 
 // What reading gives: the car, or the refusal.
-#[derive(Drop)]
+#[derive(Clone, Copy)]
 pub enum Reading {
     Loaded(Car),
     Refused(u32),
@@ -92,7 +94,7 @@ fn save(car: Car, buffer: &mut [u32])
 }
 
 // A lesson's refusal, 0, 18 or 19, and its counts.
-#[derive(Drop)]
+#[derive(Clone, Copy)]
 pub struct Outcome {
     pub refusal: u32,
     pub accepted: usize,
@@ -100,7 +102,7 @@ pub struct Outcome {
 }
 
 // The same of a lesson that stops where a mark is passed, with the seconds that ended at or above a mark and whether one passed.
-#[derive(Drop)]
+#[derive(Clone, Copy)]
 pub struct RunOutcome {
     pub refusal: u32,
     pub accepted: usize,

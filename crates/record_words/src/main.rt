@@ -1,6 +1,8 @@
 // Standard input holds records of 14 words: how many words a record has, 11 to 13, and thirteen words, zeros past its own.
 // For each a line: the refusal; and of a car that was read its fields in the order of document 01, and 1 if the car written
 // again, as an array and into a buffer of thirteen words, has the same words and the buffer's last word is kept, else 0.
+#![tactic(auto)]
+
 ghost use Rattle.std.specs.Prelude.{◌≤◌, length};
 
 use car::Car;
@@ -21,12 +23,10 @@ fn read(words: [u32; 13], count: u32) -> Reading {
 fn same(a: &[u32], b: &[u32]) -> bool
     requires { (12 ≤ length a.now) × (12 ≤ length b.now) }
 {
-    let mut i = 0;
-    while i < 12 {
+    for i in 0..12 {
         if a[i] != b[i] {
             return false;
         }
-        i += 1;
     }
     true
 }
@@ -74,14 +74,14 @@ fn lines(out: &mut [u8], input: &[u32]) -> usize {
     end
 }
 
-fn main() {
+fn main(rt: HostRuntime) {
     let mut words = [0; 16384];
-    let input = tester::read_words(&mut words, b"record_words: standard input");
+    let input = tester::read_words(&rt, &mut words, b"record_words: standard input");
     if input.failed {
         return;
     }
     let mut out = [0; 131072];
     let count = input.count;
     let end = lines(&mut out, &words[0..count]);
-    tester::write(&out, end, b"record_words: standard output");
+    tester::write(&rt, &out, end, b"record_words: standard output");
 }

@@ -1,2 +1,1 @@
 pub mod SettingsWord
-pub mod SettingsWordLaws

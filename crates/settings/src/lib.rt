@@ -1,5 +1,7 @@
 // The settings word (document 01, "The cab, alike, and the program"): a word makes the fresh car of its settings, and settings are written
 // as their word.
+#![tactic(auto, using(kit::specs::Pick::picks))]
+
 ghost use Rattle.std.specs.Prelude.{◌≡◌};
 ghost use Rattle.car.specs.Car.{fresh_answer};
 ghost use Rattle.settings.specs.SettingsWord.{writing_answer, start_of, write_of};
@@ -8,7 +10,7 @@ use car::{Car, Fresh};
 use event::refusal;
 
 // What writing settings gives: their word, or the refusal.
-#[derive(Drop)]
+#[derive(Clone, Copy)]
 pub enum Writing {
     Word(u32),
     Refused(u32),
@@ -25,6 +27,7 @@ const SIGNS: u32 = 4;
 const UNNAMED: u32 = 8;
 
 // The fresh car of a settings word. 17 for any other word.
+#[tactic(auto, using(kit::specs::Pick::picks), unfolding(crate::specs::SettingsWord::start_of, crate::specs::SettingsWord::mode_of, crate::specs::SettingsWord::signs_of))]
 pub fn start(word: u32) -> Fresh
     ensures { fresh_answer result ≡ start_of word }
 {
@@ -37,6 +40,7 @@ pub fn start(word: u32) -> Fresh
 }
 
 // The word of settings that make a car. 17 for any others.
+#[tactic(auto, using(kit::specs::Pick::picks), unfolding(crate::specs::SettingsWord::word_of))]
 pub fn write(mode: u32, signs: u32) -> Writing
     ensures { writing_answer result ≡ write_of mode signs }
 {

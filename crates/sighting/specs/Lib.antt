@@ -2,8 +2,3 @@ pub mod Value
 pub mod Sighting
 pub mod Exactly
 pub mod SightingShape
-pub mod ValueLaws
-pub mod WholeLaws
-pub mod SightingLaws
-pub mod SightingShapeLaws
-pub mod Examples

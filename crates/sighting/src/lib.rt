@@ -1,4 +1,6 @@
 // The scene engine's sightings (document 02, §7): a sighting becomes a radar event, and the event's word.
+#![tactic(auto, using(kit::specs::Pick::picks))]
+
 ghost use Rattle.std.specs.Prelude.{◌≡◌, max};
 ghost use Rattle.event.specs.Words.{write_of};
 ghost use Rattle.sighting.specs.Value.{above};
@@ -11,7 +13,7 @@ use whole::Whole;
 mod whole;
 
 // What the engine sees: a car, with metres and km/h; a free road; nothing, for a fault of its own.
-#[derive(Drop)]
+#[derive(Clone, Copy)]
 pub enum Sighting {
     Vehicle(f32, f32),
     Free,
@@ -19,7 +21,7 @@ pub enum Sighting {
 }
 
 // The event of a sighting; none of a fault; or the refusal.
-#[derive(Drop)]
+#[derive(Clone, Copy)]
 pub enum Seen {
     Event(Event),
     NoEvent,
@@ -27,7 +29,7 @@ pub enum Seen {
 }
 
 // The same with the event's word.
-#[derive(Drop)]
+#[derive(Clone, Copy)]
 pub enum SeenWord {
     Word(u32),
     NoEvent,
@@ -36,6 +38,7 @@ pub enum SeenWord {
 
 const FREE_ROAD: Event = Event::Input(Input::Radar { range: 0, speed: 0 });
 
+#[tactic(auto, using(kit::specs::Pick::picks, crate::proofs::ValueLaws::above_500))]
 fn too_fast(kmh: f32) -> bool
     ensures { result ≡ above 500 kmh }
 {
@@ -49,6 +52,7 @@ fn at_least_1(metres: u32) -> u32
 }
 
 // The reading of whole metres and tenths of km/h.
+#[tactic(auto, using(kit::specs::Pick::picks, crate::proofs::SightingLaws::reading_far, crate::proofs::SightingLaws::reading_within))]
 fn reading(metres: u32, tenths: u32) -> Event
     ensures { result ≡ reading_of metres tenths }
 {
@@ -62,6 +66,7 @@ fn reading(metres: u32, tenths: u32) -> Event
 }
 
 // A car at so many whole metres.
+#[tactic(auto, using(kit::specs::Pick::picks, crate::proofs::SightingShapeLaws::speed_refused, crate::proofs::SightingShapeLaws::speed_fast, crate::proofs::SightingShapeLaws::speed_read))]
 fn at_speed(metres: u32, kmh: f32) -> Seen
     ensures { seen_answer result ≡ at_speed metres kmh }
 {
@@ -76,6 +81,7 @@ fn at_speed(metres: u32, kmh: f32) -> Seen
     }
 }
 
+#[tactic(auto, using(kit::specs::Pick::picks, crate::proofs::SightingShapeLaws::metres_refused, crate::proofs::SightingShapeLaws::metres_read))]
 fn vehicle(metres: f32, kmh: f32) -> Seen
     ensures { seen_answer result ≡ vehicle_of metres kmh }
 {
@@ -85,6 +91,7 @@ fn vehicle(metres: f32, kmh: f32) -> Seen
     }
 }
 
+#[tactic(auto, using(kit::specs::Pick::picks), unfolding(crate::specs::Sighting::seen_of))]
 pub fn radar_event(sighting: Sighting) -> Seen
     ensures { seen_answer result ≡ seen_of sighting }
 {
@@ -95,6 +102,7 @@ pub fn radar_event(sighting: Sighting) -> Seen
     }
 }
 
+#[tactic(auto, using(kit::specs::Pick::picks), unfolding(crate::specs::SightingShape::written))]
 fn event_word(event: Event) -> SeenWord
     ensures { seen_word_answer result ≡ written (write_of event) }
 {
@@ -104,6 +112,7 @@ fn event_word(event: Event) -> SeenWord
     }
 }
 
+#[tactic(auto, using(kit::specs::Pick::picks, crate::proofs::SightingShapeLaws::word_written, crate::proofs::SightingShapeLaws::word_none, crate::proofs::SightingShapeLaws::word_refused))]
 pub fn radar_word(sighting: Sighting) -> SeenWord
     ensures { seen_word_answer result ≡ seen_word sighting }
 {

@@ -8,7 +8,7 @@ ghost use Rattle.sighting.specs.SightingShape.{whole_answer, whole_of, large};
 use event::refusal;
 
 // The whole number, at most 2^23, or the refusal.
-#[derive(Drop)]
+#[derive(Clone, Copy)]
 pub enum Whole {
     Number(u32),
     Refused(u32),
@@ -24,6 +24,7 @@ const MINUS_ZERO: u32 = 0x8000_0000;
 const LARGE: u32 = 0x0080_0000;
 
 // n / 2 ^ by, also where that is the width or more.
+#[tactic(auto, using(kit::specs::Pick::picks, crate::proofs::WholeLaws::shifted_out))]
 fn shifted(n: u32, by: u32) -> u32
     ensures { result ≡ n / 2 ^ by }
 {
@@ -31,6 +32,7 @@ fn shifted(n: u32, by: u32) -> u32
 }
 
 // Of the bits of a finite float with no minus sign. Below a power of 1 there is no leading digit; from 150 on the float is 2^23 or more.
+#[tactic(auto, using(kit::specs::Pick::picks, crate::proofs::WholeLaws::held_small, crate::proofs::WholeLaws::held_below, crate::proofs::WholeLaws::held_beyond, crate::proofs::WholeLaws::held_large))]
 fn of_finite(bits: u32, times: u32) -> u32
     requires { (bits < 0x7f80_0000) × (times ≤ 10) × (1 ≤ times) }
     ensures { result ≡ min (floor_times times (of_bits binary32 bits)) large }
@@ -47,6 +49,7 @@ fn of_finite(bits: u32, times: u32) -> u32
     if whole < LARGE { whole } else { LARGE }
 }
 
+#[tactic(auto, using(kit::specs::Pick::picks, crate::proofs::WholeLaws::whole_minus_zero, crate::proofs::WholeLaws::whole_unusable, crate::proofs::WholeLaws::whole_usable, crate::proofs::ValueLaws::finite_usable, crate::proofs::ValueLaws::past_infinity_unusable))]
 fn of_bits(bits: u32, times: u32) -> Whole
     requires { (times ≤ 10) × (1 ≤ times) }
     ensures { whole_answer result ≡ whole_of times (of_bits binary32 bits) }
@@ -61,6 +64,7 @@ fn of_bits(bits: u32, times: u32) -> Whole
 }
 
 // A float that is no number has no bits of its own, and is told by differing from itself.
+#[tactic(auto, using(kit::specs::Pick::picks, crate::proofs::WholeLaws::whole_unusable, crate::proofs::ValueLaws::differs_unusable, crate::proofs::ValueLaws::same_number))]
 pub(crate) fn of_float(x: f32, times: u32) -> Whole
     requires { (times ≤ 10) × (1 ≤ times) }
     ensures { whole_answer result ≡ whole_of times x }

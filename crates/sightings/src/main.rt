@@ -1,6 +1,8 @@
 // Turns the sightings of standard input (words, little-endian) into events: for each the kind, and metres and km/h as the floats' bits.
 // Prints for each the refusal and the word that the library's function gives; and for the kinds 0 to 2 those of the calls: the event's refusal, 1 where
 // there is an event, its range and its speed; the word's refusal, 1 where there is an event, and the word.
+#![tactic(auto)]
+
 use event::{Event, Input};
 use sighting::{Seen, SeenWord, Sighting};
 
@@ -76,14 +78,14 @@ fn lines(out: &mut [u8], words: &[u32]) -> usize {
     end
 }
 
-fn main() {
+fn main(rt: HostRuntime) {
     let mut words = [0; 16384];
-    let input = tester::read_words(&mut words, b"sightings: standard input");
+    let input = tester::read_words(&rt, &mut words, b"sightings: standard input");
     if input.failed {
         return;
     }
     let mut out = [0; 131072];
     let count = input.count;
     let end = lines(&mut out, &words[0..count]);
-    tester::write(&out, end, b"sightings: standard output");
+    tester::write(&rt, &out, end, b"sightings: standard output");
 }

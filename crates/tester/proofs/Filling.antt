@@ -1,15 +1,13 @@
 -- The first i places of a slice filled: one turn of the loop, and its end.
 -- Assumes nothing.
-use mathlib.Core.List.{List, ◌++◌, append-nil}
-use mathlib.Core.Path.{◌≡◌, refl, ◌∙◌}
-use Prim.Native.Nat.{ℕ, ◌+◌, ◌≤◌, ◌<◌}
-use native.Mathlib.Nat.{zero-add}
-use native.Mathlib.Numerals.{add-one}
-use native.Mathlib.Omega.{arith}
-use lib.ListN.{length, take, drop, get_or, set, drop_of_length-le}
-use lib.Seq.{paste-suc, take_all}
+use Rattle.std.proofs.Common.{List, ◌++◌, ◌≡◌, refl, ◌∙◌, ℕ, ◌+◌, ◌≤◌, ◌<◌, arith, length, take, drop, get_or, set}
+use Rattle.std.proofs.Math.Nat.{zero-add}
+use Rattle.std.proofs.Math.Numerals.{add-one}
+use Rattle.std.proofs.Math.ListN.{drop_of_length-le}
+use Rattle.std.proofs.Math.Seq.{paste-suc}
+use Rattle.std.proofs.lemmas.List.{append-nil, take_all}
 use Rattle.tester.specs.Input.{first_of}
-use Rattle.tester.specs.InputLaws.{first_length, first_at}
+use Rattle.tester.proofs.InputLaws.{first_length, first_at}
 
 pub filled : List ℕ → List ℕ → ℕ → List ℕ
 filled ws d i = take i (first_of (length d) ws) ++ drop i d

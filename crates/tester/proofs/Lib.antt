@@ -1,2 +1,4 @@
 pub mod Filling
 pub mod Floats
+pub mod InputLaws
+pub mod OutputLaws

@@ -6,16 +6,16 @@ ghost use Rattle.settings.specs.SettingsWord.{write_of};
 ghost use Rattle.tester.specs.Input.{first_of, word_or0, sighting_of};
 
 use console::Reading;
-use libc::STDIN_FILENO;
 use settings::Writing;
 use sighting::Sighting;
 
 // Reads all of standard input, 131,072 bytes at most. `what` is the program and the input's name. No contract can say what is read.
-pub fn read_words(words: &mut [u32], what: &[u8]) -> Reading
+#[tactic(auto, using(kit::specs::Pick::picks), unfolding(wire::specs::Wire::words_count))]
+pub fn read_words(rt: &HostRuntime, words: &mut [u32], what: &[u8]) -> Reading
     ensures { result.count ≤ length words.new }
 {
     let mut bytes = [0; 131072];
-    let got = console::read_all(STDIN_FILENO, &mut bytes, what);
+    let got = console::read_all(&mut rt.stdin(), &mut rt.stderr(), &mut bytes, what);
     let count = got.count;
     Reading {
         count: wire::words_of(&bytes[0..count], words),
@@ -86,6 +86,7 @@ pub fn fill(into: &mut [u32], words: &[u32], at: usize)
 }
 
 // The settings word of mode and signs; settings outside their values have none, and get 0, which is refused as they are.
+#[tactic(auto, using(kit::specs::Pick::picks), unfolding(crate::specs::Input::word_or0))]
 pub fn settings_word(mode: u32, signs: u32) -> u32
     ensures { result ≡ word_or0 (write_of mode signs) }
 {
@@ -106,6 +107,7 @@ pub fn float(bits: u32) -> f32
 }
 
 // The sighting of a kind, 0 a vehicle, 1 a free road, any other a fault, and of two floats' bits.
+#[tactic(auto, using(kit::specs::Pick::picks), unfolding(crate::specs::Input::sighting_of, kit::specs::Pick::pick))]
 pub fn sighting(kind: u32, metres: u32, kmh: u32) -> Sighting
     ensures { result ≡ sighting_of kind metres kmh }
 {

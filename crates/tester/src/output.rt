@@ -2,11 +2,12 @@
 // text nothing is put and the index is the one handed in. Room for a number is 21 bytes. A line is put part by part: those that have room.
 ghost use Rattle.std.specs.Prelude.{◌≡◌, true, false, [], ◌∷◌, ◌<◌, length};
 ghost use Rattle.tester.specs.Fields.{fields_of};
-ghost use Rattle.tester.specs.Output.{page, put_text, put_ended, put_number, put_last, put_end_line, put_numbers, put_words_line};
+ghost use Rattle.tester.specs.Output.{page, put_text, ended_put, put_number, put_last, put_end_line, put_numbers, put_words_line};
 
 use crate::fields::fields_of;
 use car::Car;
 
+#[tactic(auto, using(kit::specs::Pick::picks), unfolding(crate::specs::Output::put))]
 pub fn text(out: &mut [u8], at: usize, bytes: &[u8]) -> usize
     ensures { page out.new result ≡ put_text (page out.old at) bytes.now }
 {
@@ -20,8 +21,9 @@ pub fn end_line(out: &mut [u8], at: usize) -> usize
 }
 
 // A number and the byte that ends it.
+#[tactic(auto, using(kit::specs::Pick::picks), unfolding(crate::specs::Output::put))]
 fn ended(out: &mut [u8], at: usize, n: u64, byte: u8) -> usize
-    ensures { page out.new result ≡ put_ended (page out.old at) n byte }
+    ensures { page out.new result ≡ ended_put (page out.old at) n byte }
 {
     if out.len() < 21 {
         return at;
@@ -76,6 +78,7 @@ pub fn words_line(out: &mut [u8], at: usize, words: &[u32]) -> usize
 }
 
 // The line of a refusal and a count.
+#[tactic(auto, using(kit::specs::Pick::picks), unfolding(crate::specs::Output::put_numbers))]
 pub fn count_line(out: &mut [u8], at: usize, refusal: u32, n: usize) -> usize
     ensures { page out.new result ≡ put_words_line (page out.old at) (refusal ∷ n ∷ []) }
 {
@@ -85,6 +88,7 @@ pub fn count_line(out: &mut [u8], at: usize, refusal: u32, n: usize) -> usize
 }
 
 // The line of a lesson: its refusal and two counts.
+#[tactic(auto, using(kit::specs::Pick::picks), unfolding(crate::specs::Output::put_numbers))]
 pub fn lesson_line(
     out: &mut [u8],
     at: usize,
@@ -108,11 +112,11 @@ pub fn car_line(out: &mut [u8], at: usize, car: Car) -> usize
 }
 
 // Writes the text before an index to standard output, and says whether all of it went out. `what` is the program and the output's name.
-pub fn write(out: &[u8], end: usize, what: &[u8]) -> bool
+pub fn write(rt: &HostRuntime, out: &[u8], end: usize, what: &[u8]) -> bool
     ensures { (length out.now < end → result ≡ false) × (end ≡ 0 → result ≡ true) }
 {
     if out.len() < end {
         return false;
     }
-    console::write(&out[0..end], what)
+    console::write(&mut rt.stdout(), &mut rt.stderr(), &out[0..end], what)
 }

@@ -1,4 +1,6 @@
 // The record call (document 01, "A lesson"). The theorem about every list of calls stands in specs/.
+#![tactic(auto, using(kit::specs::Pick::picks))]
+
 ghost use Rattle.std.specs.Prelude.{◌≡◌, take};
 ghost use Rattle.record.specs.Record.{read_of, saved_buffer};
 ghost use Rattle.trainer.specs.RecordCall.{read_back, kept_of};
@@ -8,13 +10,14 @@ use event::refusal;
 use record::Reading;
 
 // The car after a record call, and its refusal, 0, 18 or 20.
-#[derive(Drop)]
+#[derive(Clone, Copy)]
 pub struct Kept {
     pub car: Car,
     pub refusal: u32,
 }
 
 // The car read from the first twelve words of a buffer, or the car as it was and the refusal.
+#[tactic(auto, using(kit::specs::Pick::picks), unfolding(crate::specs::RecordCall::read_back))]
 fn read_back(car: Car, buffer: &[u32]) -> Kept
     ensures { result ≡ read_back car (read_of (take 12 buffer.now)) }
 {

@@ -9,7 +9,7 @@ use native.Mathlib.Omega.{arith}
 use lib.ListN.{length, take, drop, get_or, set}
 use lib.Seq.{paste-suc}
 use Rattle.wire.specs.Wire.{joined, words_of, words_count, words_after}
-use Rattle.wire.specs.WireLaws.{words_length, words_at}
+use Rattle.wire.proofs.WireLaws.{words_length, words_at}
 
 pub filled : List ℕ → List ℕ → ℕ → List ℕ
 filled bs d i = take i (words_of bs) ++ drop i d

@@ -9,7 +9,7 @@ use lib.ListN.{length, take, drop, get_or, set}
 use lib.Seq.{drop-cons, drop-length, get_or-take, length-take-le, sets-eq}
 use Rattle.kit.specs.Placed.{placed, placed_nothing, placed_length, placed_more, placed_first}
 use Rattle.wire.specs.Wire.{bytes_of, bytes_count, bytes_after}
-use Rattle.wire.specs.WireLaws.{bytes_length, bytes_taken}
+use Rattle.wire.proofs.WireLaws.{bytes_length, bytes_taken}
 
 pub stored : (out : List ℕ) (at a b c d : ℕ) → at + 4 ≤ length out
     → set (set (set (set out at a) (at + 1) b) (at + 2) c) (at + 3) d ≡ placed out at (a ∷ b ∷ c ∷ d ∷ [])

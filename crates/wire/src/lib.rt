@@ -1,4 +1,6 @@
 // Little-endian words of 32 bits in a slice of bytes.
+#![tactic(auto, using(kit::specs::Pick::picks))]
+
 ghost use Rattle.std.specs.Prelude.{[], ◌∷◌, ◌≡◌, ◌+◌, ◌≤◌, min, length};
 ghost use Rattle.kit.specs.Placed.{placed};
 ghost use Rattle.wire.specs.Wire.{word_at, joined, words_count, words_after, bytes_of, bytes_count, bytes_after};
@@ -16,6 +18,7 @@ fn join(a: u8, b: u8, c: u8, d: u8) -> u32
 }
 
 // The word whose first byte stands at an index, or 0 where it does not lie within the slice.
+#[tactic(auto, using(kit::specs::Pick::picks), unfolding(crate::specs::Wire::word_at))]
 pub fn word_at(bytes: &[u8], at: usize) -> u32
     ensures { result ≡ word_at bytes.now at }
 {

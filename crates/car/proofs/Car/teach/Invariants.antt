@@ -1,0 +1,10 @@
+use Rattle.std.proofs.Common.{◌-◌, length}
+use Rattle.car.proofs.Going.{Going}
+use Rattle.car.proofs.Car.teach.Given as goal
+
+abbrev pub invariant-loop-i : goal.invariant-loop-i
+invariant-loop-i l =
+    Going l.words l.initial.answers l.initial.speeds l.halt l.mark l.initial.car l.answers l.speeds l.car l.refused l.seconds l.end l.below l.i l.code l.answer
+
+abbrev pub decreases-loop-i : goal.decreases-loop-i
+decreases-loop-i l = length l.words - l.i

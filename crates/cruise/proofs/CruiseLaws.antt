@@ -1,0 +1,122 @@
+-- Laws of the library's definitions, by equations, as the code's exits have them.
+-- Assumes nothing.
+use Rattle.std.specs.Prelude.{Bool, List, [], ◌∷◌, ℕ, ◌≤◌, eqb, get_or}
+use Rattle.std.proofs.Math.Bool.{true, false}
+use Rattle.std.proofs.Math.Option.{some, none}
+use Rattle.std.proofs.Math.Path.{◌≡◌, refl}
+use Rattle.std.proofs.Common.{sym, ◌∙◌, arith}
+use Rattle.kit.specs.Answer.{Answer, gives, refused, number_of}
+use Rattle.kit.specs.Pick.{pick, pick_true, pick_case}
+use Rattle.answer.specs.declared.Answer as answer
+use Rattle.answer.specs.AnswerWord as answerword
+use Rattle.car.specs.declared.Car.{Car}
+use Rattle.car.specs.declared.figures.Figures.{Figures}
+use Rattle.car.proofs.AccelerationLaws.{acceleration_size}
+use Rattle.car.proofs.AnswerLaws.{step_shows}
+use Rattle.car.specs.Drive.{step_of}
+use Rattle.car.specs.Figures.{figures_of, shown, no_figures}
+use Rattle.car.specs.Good.{good_of}
+use Rattle.car.proofs.GoodLaws.{good}
+use Rattle.car.specs.Lesson.{answer_of, driven, each_of, each_after, answers_after, taught_of, lesson_of}
+use Rattle.car.proofs.StepLaws.{drive_step}
+use Rattle.record.specs.Record.{read_of}
+use Rattle.record.proofs.RecordLaws.{refused_18, read_packed}
+use Rattle.record.specs.RecordLesson.{LessonLeft, lesson_left}
+use Rattle.record.specs.Layout.{packed}
+use Rattle.sighting.specs.declared.Sighting.{Sighting}
+use Rattle.scene.specs.See.{see_of}
+use Rattle.scene.specs.SeeShape.{kept_of}
+use Rattle.scene.proofs.SeeLaws.{see_word, see_none, see_refused}
+use Rattle.cruise.specs.Cruise.{Left, drive_left, figures_read, handed_word, see_left}
+
+-- ---- one event word is a lesson of one word, whose answer word holds the refusal in bits 0-4
+module _ (c : Car) (w : ℕ) (g : good_of c ≡ true) where
+  lesson_one : lesson_of c (w ∷ []) (0 ∷ []) ≡ taught_of c (w ∷ [])
+  unfolding lesson_of pick
+  lesson_one = rw g
+
+  answers_one : answers_after c (w ∷ []) (0 ∷ []) ≡ answer_of (step_of c w) ∷ []
+  unfolding each_after each_of pick
+  answers_one = rw g
+
+module _ (words : List ℕ) (w : ℕ) where
+  abbrev one : Answer Car → LessonLeft
+  one r = lesson_left words r (w ∷ []) (0 ∷ [])
+
+  pub drive_refused : (l : LessonLeft) → l ≡ one (read_of words) → (l.refusal ≡ 0 → ⊥)
+      → ◌≡◌ {A = Left} (record { refusal = l.refusal; words = l.words }) (drive_left words (read_of words) w)
+  unfolding lesson_left drive_left taught_of
+  drive_refused l e n = rw e (go (read_of words) refl (λ z. n (rw e z)))
+    where
+      go : (r : Answer Car) → read_of words ≡ r → ((one r).refusal ≡ 0 → ⊥)
+          → ◌≡◌ {A = Left} (record { refusal = (one r).refusal; words = (one r).words }) (drive_left words r w)
+      go (gives c) h z = absurd (z (rw (lesson_one c w (read_packed words c h).1)))
+      go (refused n) h z = refl
+
+  pub drive_answered : (l : LessonLeft) (a : answer.Answer) → l ≡ one (read_of words) → l.refusal ≡ 0 → a ≡ answerword.read_of (get_or l.answers 0 0)
+      → ◌≡◌ {A = Left} (record { refusal = a.refusal; words = l.words }) (drive_left words (read_of words) w)
+  unfolding lesson_left drive_left taught_of driven answerword.read_of
+  drive_answered l a e z ea = rw (ea, e) (go (read_of words) refl (rw e at z))
+    where
+      go : (r : Answer Car) → read_of words ≡ r → (one r).refusal ≡ 0
+          → ◌≡◌ {A = Left} (record { refusal = (answerword.read_of (get_or (one r).answers 0 0)).refusal; words = (one r).words }) (drive_left words r w)
+      go (gives c) h y =
+          let g = (read_packed words c h).1 in
+          rw (lesson_one c w g, answers_one c w g, drive_step c w g, (step_shows c w g).refusal)
+      go (refused n) h y = let e = (refused_18 words n h).0 in absurd (omega arith)
+
+-- a figure's acceleration fits
+figures_small : (c : Car) → (figures_of c).acceleration.size ≤ 60
+unfolding figures_of shown no_figures
+figures_small c =
+    pick_case (λ (f : Figures). f.acceleration.size ≤ 60) (good_of c) _ _
+    (λ t. let small = acceleration_size c (good c t).ranges in omega arith)
+    (λ t. omega arith)
+
+pub dial_small : (r : Answer Car) → (figures_read r).acceleration.size ≤ 60
+unfolding figures_read
+dial_small (gives c) = figures_small c
+dial_small (refused n) = omega arith
+
+-- ---- a sighting is driven by its event's word, and with none the record is only tested
+no_answer : {P : Type 0} {A : Type 0} (a : A) (n : ℕ) → gives a ≡ refused n → P
+no_answer a n e = let z : ◌≡◌ {A = ℕ} 0 1 = cc e in absurd (omega arith)
+
+module _ (words : List ℕ) where
+  pub see_driven : (a : Answer Sighting) (w : ℕ) → handed_word a ≡ gives (some w) → drive_left words (read_of words) w ≡ see_left words (read_of words) a
+  unfolding handed_word drive_left see_left
+  see_driven (refused n) w h = no_answer (some w) n (sym h)
+  see_driven (gives s) w h = go (read_of words)
+    where
+      go : (r : Answer Car) → drive_left words r w ≡ see_left words r (gives s)
+      go (gives c) = rw (see_word c s w h) refl
+      go (refused n) = refl
+
+  -- the record of a car that keeps its place
+  same_record : (c : Car) (s : Sighting) (n : ℕ) (fault : Bool) → read_of words ≡ gives c → see_of c s ≡ kept_of c n fault
+      → ◌≡◌ {A = Left} (record { refusal = n; words = words }) (record { refusal = (see_of c s).refusal; words = packed (see_of c s).car })
+  unfolding kept_of
+  same_record c s n fault h e =
+      let p = read_packed words c h in
+      rw (e ∙ pick_true _ _ _ p.1, p.0) refl
+
+  pub see_fault : (a : Answer Sighting) → handed_word a ≡ gives none
+      → ◌≡◌ {A = Left} (record { refusal = number_of (read_of words); words = words }) (see_left words (read_of words) a)
+  unfolding handed_word see_left number_of
+  see_fault (refused n) h = no_answer none n (sym h)
+  see_fault (gives s) h = go (read_of words) refl
+    where
+      go : (r : Answer Car) → read_of words ≡ r → ◌≡◌ {A = Left} (record { refusal = number_of r; words = words }) (see_left words r (gives s))
+      go (gives c) e = same_record c s 0 true e (see_none c s h)
+      go (refused n) e = refl
+
+  pub see_refusal : (a : Answer Sighting) (n : ℕ) → handed_word a ≡ refused n
+      → ◌≡◌ {A = Left} (record { refusal = pick (eqb (number_of (read_of words)) 0) n (number_of (read_of words)); words = words }) (see_left words (read_of words) a)
+  unfolding handed_word see_left number_of pick
+  see_refusal a n h = go (read_of words) refl a h
+    where
+      go : (r : Answer Car) → read_of words ≡ r → (a : Answer Sighting) → handed_word a ≡ refused n
+          → ◌≡◌ {A = Left} (record { refusal = pick (eqb (number_of r) 0) n (number_of r); words = words }) (see_left words r a)
+      go (gives c) e (gives s) h = same_record c s n false e (see_refused c s n h)
+      go (gives c) e (refused m) h = let z : n ≡ m = cc h in rw z refl
+      go (refused m) e a h = rw (refused_18 words m e).0 refl

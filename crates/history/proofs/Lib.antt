@@ -1,0 +1,8 @@
+pub mod AcceptedLaws
+pub mod BandLaws
+pub mod HistoryLaws
+pub mod KeptDesiredLaws
+pub mod NeighbourLaws
+pub mod PedalsUpLaws
+pub mod RoundaboutLaws
+pub mod WarningLaws

@@ -1,0 +1,5 @@
+pub mod AccelerationLaws
+pub mod AccelerationShapeLaws
+pub mod PedalLaws
+pub mod SignedLaws
+pub mod SpeedLaws

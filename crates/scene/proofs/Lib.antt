@@ -1,0 +1,2 @@
+pub mod SceneCallsLaws
+pub mod SeeLaws
