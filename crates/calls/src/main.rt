@@ -1,7 +1,6 @@
 // Runs the calls of standard input (words, little-endian): 1 mode signs, a fresh car; 2 and 23 fields, a car as it stands; 3 word, one
-// word driven; 4 size count words, a lesson with an answer buffer of that size; 5 size, a record call with a buffer of that size; 6 kind metres
-// kmh, a sighting, the floats as their bits; 0 ends.
-// Prints for each its refusal (a lesson's counts behind it; a word's answer word, and whether the cars before and after it are alike; 1 for a sighting that is a fault), then its buffer, then the car's fields in document 01's order.
+// word driven; 4 size count words, a lesson with an answer buffer of that size; 5 size, a record call with a buffer of that size; 0 ends.
+// Prints for each its refusal (a lesson's counts behind it; a word's answer word, and whether the cars before and after it are alike), then its buffer, then the car's fields in document 01's order.
 #![tactic(auto)]
 
 use car::{Car, Fresh};
@@ -136,26 +135,12 @@ fn record_call(state: State, out: &mut [u8], words: &[u32]) -> State {
     kept(from, out, &mut buffer[0..size])
 }
 
-fn see(state: State, out: &mut [u8], words: &[u32]) -> State {
-    let mut seen = [0; 3];
-    tester::fill(&mut seen, words, state.next);
-    let car = state.car;
-    let saw = scene::see(car, tester::sighting(seen[0], seen[1], seen[2]));
-    let after = saw.car;
-    State {
-        car: after,
-        next: tester::past(words, state.next, 3),
-        end: tester::words_line(out, state.end, &[saw.refusal, event::bit(saw.fault)]),
-    }
-}
-
 fn any_other(kind: u32, state: State, out: &mut [u8], words: &[u32]) -> State {
     match kind {
         2 => set(state, words),
         3 => drive(state, out, words),
         4 => lesson(state, out, words),
-        5 => record_call(state, out, words),
-        _ => see(state, out, words),
+        _ => record_call(state, out, words),
     }
 }
 

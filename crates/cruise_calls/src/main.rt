@@ -1,7 +1,6 @@
 // Runs every function of the library over thirteen words of its own. Standard input (words, little-endian) holds calls: the kind, how
 // many of the thirteen words are lent, and what the kind needs: 1 words, as many as are lent, to take their place; 2 mode signs, a fresh
-// car; 3 word, one word driven; 4 room count words, a lesson with that room for answers; 5 kind metres kmh, a sighting, the floats as their
-// bits; 0 ends.
+// car; 3 word, one word driven; 4 room count words, a lesson with that room for answers; 0 ends.
 // Prints for each, but kind 1, its refusal (a lesson's counts behind it, and in a line its sixteen words for answers) and the thirteen
 // words; for each, of the words lent: the test's refusal; the figures' and the figures (of a the sign, 1 below 0, and the size); that of
 // alike and whether the words before the call are alike.
@@ -118,21 +117,6 @@ fn lesson(place: Place, out: &mut [u8], input: &[u32], words: &mut [u32]) -> Pla
     taught(from, out, input, words, &mut events[START..end], room)
 }
 
-fn see(place: Place, out: &mut [u8], input: &[u32], words: &mut [u32]) -> Place {
-    let mut seen = [0; 3];
-    tester::fill(&mut seen, input, place.next);
-    let refusal = cruise::cruise_see(
-        words,
-        seen[0],
-        tester::float(seen[1]),
-        tester::float(seen[2]),
-    );
-    Place {
-        next: tester::past(input, place.next, 3),
-        end: tester::words_line(out, place.end, &[refusal]),
-    }
-}
-
 fn set(place: Place, input: &[u32], words: &mut [u32]) -> Place {
     tester::fill(words, input, place.next);
     Place {
@@ -146,8 +130,7 @@ fn call(kind: u32, place: Place, out: &mut [u8], input: &[u32], words: &mut [u32
         1 => set(place, input, words),
         2 => fresh(place, out, input, words),
         3 => drive(place, out, input, words),
-        4 => lesson(place, out, input, words),
-        _ => see(place, out, input, words),
+        _ => lesson(place, out, input, words),
     }
 }
 
