@@ -68,28 +68,30 @@ towards_at v x e = rw e (sym (pick_false _ _ _ same ∙ pick_false _ _ _ same))
     same : ltb x x ≡ false
     same = le-ltb x x (omega arith)
 
+urged_is : (term n : ℕ) (t slows : Bool) → term ≤ full_gas → n ≤ pick slows full_brake full_gas
+    → pick t (acceleration_code (record { slows = slows; size = n })) (60 + max term (acceleration_code (record { slows = slows; size = n }) - 60))
+    ≡ acceleration_code (pick t (record { slows = slows; size = n }) (pushed term (record { slows = slows; size = n })))
+unfolding acceleration_code pushed speeding pick
+urged_is term n true slows l h = refl
+urged_is term n false true l h = omega arith
+urged_is term n false false l h = omega arith
+
 pub cruising_code : (g v x : ℕ) → g ≤ pedal_ceiling → urged_code g (acceleration_code (towards v x)) ≡ acceleration_code (cruising g v x)
 unfolding cruising urged urged_code acceleration_code pushed speeding pick
 cruising_code g v x h = urged_is (gas_term g) (towards v x).size (eqb g 0) (towards v x).slows (gas_term_le g h) (towards_small v x)
-  where
-    urged_is : (term n : ℕ) (t slows : Bool) → term ≤ full_gas → n ≤ pick slows full_brake full_gas
-        → pick t (acceleration_code (record { slows = slows; size = n })) (60 + max term (acceleration_code (record { slows = slows; size = n }) - 60))
-        ≡ acceleration_code (pick t (record { slows = slows; size = n }) (pushed term (record { slows = slows; size = n })))
-    urged_is term n true slows l h = refl
-    urged_is term n false true l h = omega arith
-    urged_is term n false false l h = omega arith
+
+moved_is : (v n : ℕ) (slows : Bool) → n ≤ 60
+    → moved_by v (acceleration_code (record { slows = slows; size = n })) ≡ moved v (change (record { slows = slows; size = n }))
+unfolding moved_by acceleration_code moved change pick
+moved_is v n true h =
+    let e : 60 - (60 - n) ≡ n = omega arith in
+    pick_case (λ (k : ℕ). min speed_ceiling k ≡ min speed_ceiling (v - n * 36 / 10)) (ltb (60 - n) 60) _ _
+    (λ t. rw e)
+    (λ t. let l = ltb-false (60 - n) 60 t in let z : n ≡ 0 = omega arith in rw z (omega arith))
+moved_is v n false h =
+    let e : (60 + n) - 60 ≡ n = omega arith in
+    rw (le-ltb (60 + n) 60 (omega arith), e)
 
 pub moved_code : (v : ℕ) (a : Acceleration) → a.size ≤ 60 → moved_by v (acceleration_code a) ≡ moved v (change a)
 unfolding moved_by acceleration_code moved change pick
 moved_code v a h = moved_is v a.size a.slows h
-  where
-    moved_is : (v n : ℕ) (slows : Bool) → n ≤ 60
-        → moved_by v (acceleration_code (record { slows = slows; size = n })) ≡ moved v (change (record { slows = slows; size = n }))
-    moved_is v n true h =
-        let e : 60 - (60 - n) ≡ n = omega arith in
-        pick_case (λ (k : ℕ). min speed_ceiling k ≡ min speed_ceiling (v - n * 36 / 10)) (ltb (60 - n) 60) _ _
-        (λ t. rw e)
-        (λ t. let l = ltb-false (60 - n) 60 t in let z : n ≡ 0 = omega arith in rw z (omega arith))
-    moved_is v n false h =
-        let e : (60 + n) - 60 ≡ n = omega arith in
-        rw (le-ltb (60 + n) 60 (omega arith), e)

@@ -19,10 +19,11 @@ unfolding signed speeding coasting gas_term pick
 full_gas_coasting = refl
 
 -- "then a = .. min(30, max(g×30÷225, s))", at any speed, towards any X
+full_of : (slows : Bool) (n : ℕ) → signed (urged pedal_ceiling (record { slows = slows; size = n })) ≡ pos 30
+unfolding signed speeding pushed urged gas_term pick
+full_of true n = refl
+full_of false n = ap pos (omega arith)
+
 pub full_gas_cruising : (v x : ℕ) → signed (cruising pedal_ceiling v x) ≡ pos 30
 unfolding cruising signed speeding pushed urged gas_term pick
 full_gas_cruising v x = full_of (towards v x).slows (towards v x).size
-  where
-    full_of : (slows : Bool) (n : ℕ) → signed (urged pedal_ceiling (record { slows = slows; size = n })) ≡ pos 30
-    full_of true n = refl
-    full_of false n = ap pos (omega arith)

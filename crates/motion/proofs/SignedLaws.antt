@@ -42,13 +42,13 @@ neg_mul : (n k : ℕ) → neg_ℤ (pos n) *ℤ pos k ≡ neg_ℤ (pos (n * k))
 neg_mul zero k = rw (zero-mul k)
 neg_mul (suc n) k = negsuc-*ℤ-pos n k
 
-pub change_of : (slows : Bool) (n : ℕ) → signed (record { slows = slows; size = n * 36 / 10 }) ≡ quot_z (signed (record { slows = slows; size = n }) *ℤ pos 36) (pos 10)
-unfolding signed pick
+change_of : (slows : Bool) (n : ℕ) → signed (change (record { slows = slows; size = n })) ≡ quot_z (signed (record { slows = slows; size = n }) *ℤ pos 36) (pos 10)
+unfolding signed change pick
 change_of true n = rw (neg_mul n 36, quot_neg (n * 36) 10)
 change_of false n = refl
 
 pub change_signed : (a : Acceleration) → signed (change a) ≡ quot_z (signed a *ℤ pos 36) (pos 10)
-unfolding change
+unfolding signed change pick
 change_signed a = change_of a.slows a.size
 
 -- ---- "min(30, max(g×30÷225, s))" of the signed number s
@@ -76,15 +76,16 @@ pub greater_neg : (a n : ℕ) → greater (pos a) (negsuc n) ≡ pos a
 unfolding greater pick
 greater_neg a n = refl
 
+pushed_of : (term : ℕ) (slows : Bool) (n : ℕ)
+    → signed (pushed term (record { slows = slows; size = n })) ≡ lesser (pos 30) (greater (pos term) (signed (record { slows = slows; size = n })))
+unfolding signed pushed speeding pick
+pushed_of term false n = rw (greater_pos term n, lesser_pos 30 (max term n))
+pushed_of term true zero = rw (greater_pos term 0, lesser_pos 30 (max term 0)) (ap pos (omega arith))
+pushed_of term true (suc n) = rw (greater_neg term n) (sym (lesser_pos 30 term))
+
 pub pushed_signed : (term : ℕ) (s : Acceleration) → signed (pushed term s) ≡ lesser (pos 30) (greater (pos term) (signed s))
 unfolding signed pushed speeding pick
-pushed_signed term s = pushed_of s.slows s.size
-  where
-    pushed_of : (slows : Bool) (n : ℕ)
-        → signed (pushed term (record { slows = slows; size = n })) ≡ lesser (pos 30) (greater (pos term) (signed (record { slows = slows; size = n })))
-    pushed_of false n = rw (greater_pos term n, lesser_pos 30 (max term n))
-    pushed_of true zero = rw (greater_pos term 0, lesser_pos 30 (max term 0)) (ap pos (omega arith))
-    pushed_of true (suc n) = rw (greater_neg term n) (sym (lesser_pos 30 term))
+pushed_signed term s = pushed_of term s.slows s.size
 
 -- ---- a + 60 of an a in its band lies in 0..90, which fits seven bits, and is the signed number and 60: at full brake it is 0, nothing is cut
 code_of_le : (slows : Bool) (n : ℕ) → n ≤ pick slows full_brake full_gas → acceleration_code (record { slows = slows; size = n }) ≤ 60 + full_gas

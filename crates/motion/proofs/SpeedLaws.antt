@@ -1,6 +1,6 @@
 -- Laws of the speed after a second: it is document 01's signed sum, "v + a×36÷10 held to 0..5000", and moves within the band of the change.
 -- Assumes nothing.
-use Rattle.std.specs.Prelude.{Bool, true, false, cond, ◌≡◌, refl, ℕ, zero, suc, ◌+◌, ◌-◌, ◌*◌, ◌/◌, ◌≤◌, min, max, ℤ, pos, negsuc, ◌+ℤ◌, ◌*ℤ◌, ltb}
+use Rattle.std.specs.Prelude.{Bool, true, false, cond, ◌≡◌, refl, ℕ, zero, suc, ◌+◌, ◌-◌, ◌≤◌, min, max, ℤ, pos, negsuc, ◌+ℤ◌, ◌*ℤ◌, ltb}
 use Rattle.std.proofs.Common.{sym, ap, ◌∙◌, arith, ltb-true}
 use Rattle.std.specs.Int.Signed.{quot_z}
 use Rattle.kit.specs.Bounds.{speed_ceiling}
@@ -8,7 +8,7 @@ use Rattle.kit.specs.Pick.{pick, pick_true, pick_case, pick_le}
 use Rattle.motion.specs.declared.Acceleration.{Acceleration}
 use Rattle.motion.specs.Acceleration.{signed}
 use Rattle.motion.proofs.AccelerationLaws.{Banded}
-use Rattle.motion.proofs.SignedLaws.{change_of, lesser, greater, lesser_pos, greater_pos, greater_neg}
+use Rattle.motion.proofs.SignedLaws.{change_signed, lesser, greater, lesser_pos, greater_pos, greater_neg}
 use Rattle.motion.specs.Speed.{change, moved, at_most}
 
 -- "held to 0..5000"
@@ -30,15 +30,15 @@ held_less most v n = go (ltb v (suc n)) refl
         rw (greater_neg 0 (suc n - suc v), lesser_pos most 0) (ap pos (omega arith))
     go false e = held_pos most (v - suc n)
 
+moved_of : (v : ℕ) (slows : Bool) (n : ℕ)
+    → pos (moved v (record { slows = slows; size = n })) ≡ held_to speed_ceiling (pos v +ℤ signed (record { slows = slows; size = n }))
+unfolding moved signed pick
+moved_of v false n = sym (held_pos speed_ceiling (v + n))
+moved_of v true zero = rw (held_pos speed_ceiling (v + 0)) (ap pos (omega arith))
+moved_of v true (suc n) = sym (held_less speed_ceiling v n)
+
 pub moved_signed : (v : ℕ) (a : Acceleration) → pos (moved v (change a)) ≡ held_to speed_ceiling (pos v +ℤ quot_z (signed a *ℤ pos 36) (pos 10))
-unfolding change moved signed pick
-moved_signed v a = moved_of a.slows (a.size * 36 / 10) ∙ ap (λ (x : ℤ). held_to speed_ceiling (pos v +ℤ x)) (change_of a.slows a.size)
-  where
-    moved_of : (slows : Bool) (n : ℕ)
-        → pos (moved v (record { slows = slows; size = n })) ≡ held_to speed_ceiling (pos v +ℤ signed (record { slows = slows; size = n }))
-    moved_of false n = sym (held_pos speed_ceiling (v + n))
-    moved_of true zero = rw (held_pos speed_ceiling (v + 0)) (ap pos (omega arith))
-    moved_of true (suc n) = sym (held_less speed_ceiling v n)
+moved_signed v a = moved_of v (change a).slows (change a).size ∙ ap (λ (x : ℤ). held_to speed_ceiling (pos v +ℤ x)) (change_signed a)
 
 -- ---- bounds
 pub moved_le : (v : ℕ) (a : Acceleration) → moved v a ≤ speed_ceiling

@@ -7,7 +7,7 @@ use Rattle.kit.specs.Pick.{pick_true, pick_false}
 use Rattle.kit.specs.Placed.{placed, placed_length, placed_more}
 use Rattle.listing.specs.Listing.{decimal_of, put_past, put_after}
 use Rattle.listing.proofs.ListingLaws.{decimal_length}
-use Rattle.tester.specs.Output.{Page, page, put, put_text, ended_put, put_number, put_numbers}
+use Rattle.tester.specs.Output.{Page, page, put, put_text, put_ended, put_number, put_numbers}
 
 -- ---- a text
 
@@ -21,8 +21,8 @@ put_no_room out at most bytes h = rw (pick_false _ (placed out at bytes) out (lt
 
 -- ---- a number and a byte
 
-pub put_ended : (out : List ℕ) (at n byte : ℕ) → n < 2 ^ 64 → at + 21 ≤ length out → put_text (put (page out at) 20 (decimal_of n)) (byte ∷ []) ≡ ended_put (page out at) n byte
-put_ended out at n byte fits h =
+pub put_ended_lem : (out : List ℕ) (at n byte : ℕ) → n < 2 ^ 64 → at + 21 ≤ length out → put_text (put (page out at) 20 (decimal_of n)) (byte ∷ []) ≡ put_ended (page out at) n byte
+put_ended_lem out at n byte fits h =
     let short = decimal_length 19 n (omega arith) in
     let same = placed_length out at (decimal_of n) (omega arith) in
     rw (put_room out at 20 (decimal_of n) (omega arith), put_room out at 21 (decimal_of n ++ byte ∷ []) h, put_room (placed out at (decimal_of n)) (at + length (decimal_of n)) 1 (byte ∷ []) (omega arith), placed_more out at (decimal_of n) (byte ∷ []) (omega arith))

@@ -22,15 +22,15 @@ abbrev pub put_end_line : Page → Page
 put_end_line p = put_text p (10 ∷ [])
 
 -- a number's digits, 20 at most, and a byte behind them
-abbrev pub ended_put : Page → ℕ → ℕ → Page
-ended_put p n byte = put p 21 (decimal_of n ++ byte ∷ [])
+abbrev pub put_ended : Page → ℕ → ℕ → Page
+put_ended p n byte = put p 21 (decimal_of n ++ byte ∷ [])
 
 -- a number and a blank; a number and the end of the line
 abbrev pub put_number : Page → ℕ → Page
-put_number p n = ended_put p n 32
+put_number p n = put_ended p n 32
 
 abbrev pub put_last : Page → ℕ → Page
-put_last p n = ended_put p n 10
+put_last p n = put_ended p n 10
 
 -- each number and a blank, one after the other
 unfoldable pub put_numbers : Page → List ℕ → Page

@@ -2,7 +2,7 @@
 // text nothing is put and the index is the one handed in. Room for a number is 21 bytes. A line is put part by part: those that have room.
 ghost use Rattle.std.specs.Prelude.{◌≡◌, true, false, [], ◌∷◌, ◌<◌, length};
 ghost use Rattle.tester.specs.Fields.{fields_of};
-ghost use Rattle.tester.specs.Output.{page, put_text, ended_put, put_number, put_last, put_end_line, put_numbers, put_words_line};
+ghost use Rattle.tester.specs.Output.{page, put_text, put_ended, put_number, put_last, put_end_line, put_numbers, put_words_line};
 
 use crate::fields::fields_of;
 use car::Car;
@@ -23,7 +23,7 @@ pub fn end_line(out: &mut [u8], at: usize) -> usize
 // A number and the byte that ends it.
 #[tactic(auto, using(kit::specs::Pick::picks), unfolding(crate::specs::Output::put))]
 fn ended(out: &mut [u8], at: usize, n: u64, byte: u8) -> usize
-    ensures { page out.new result ≡ ended_put (page out.old at) n byte }
+    ensures { page out.new result ≡ put_ended (page out.old at) n byte }
 {
     if out.len() < 21 {
         return at;

@@ -1,6 +1,6 @@
 use Rattle.std.proofs.Common.{arith, sym, ◌∙◌}
 use Rattle.tester.specs.Output.{put}
-use Rattle.tester.proofs.OutputLaws.{put_no_room, put_ended}
+use Rattle.tester.proofs.OutputLaws.{put_no_room, put_ended_lem}
 use Rattle.tester.proofs.output.ended.Goals as goal
 
 pub returns-then-out-lt21 : goal.returns-then-out-lt21
@@ -13,4 +13,4 @@ pub returns : goal.returns
 unfolding put
 returns c =
     c.text.ensures
-    ∙ rw (c.put_decimal-end.ensures.0, c.put_decimal-end.ensures.1) (put_ended c.args.out.now c.args.at c.args.n c.args.byte (omega arith) (omega arith))
+    ∙ rw (c.put_decimal-end.ensures.0, c.put_decimal-end.ensures.1) (put_ended_lem c.args.out.now c.args.at c.args.n c.args.byte (omega arith) (omega arith))
