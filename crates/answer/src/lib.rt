@@ -5,9 +5,9 @@ ghost use Rattle.std.specs.Prelude.{◌≡◌, ◌+◌, ◌%◌, ◌^◌};
 ghost use Rattle.answer.specs.AnswerWord.{word_of, read_of};
 
 // A word's refusal or 0, and of the car afterwards the warnings, a + 60 and D.
-#[derive(Clone, Copy)]
+#[derive(Clone, Copy, Debug, PartialEq, Eq)]
 pub struct Answer {
-    pub refusal: u32,
+    pub refusal: u32, // a number: five bits hold more than the refusals
     pub visual: bool,
     pub acoustic: bool,
     pub acceleration: u32,
@@ -16,37 +16,41 @@ pub struct Answer {
 
 // The word; 32 bits of it where a field has more bits than its own.
 #[tactic(auto, using(kit::specs::Pick::picks), unfolding(crate::specs::AnswerWord::word_of))]
-pub fn write(answer: Answer) -> u32
-    ensures { result ≡ word_of answer % 2 ^ 32 }
-{
-    let visual = event::bit(answer.visual);
-    let acoustic = event::bit(answer.acoustic);
-    let word = 0xC000_0000
-        + answer.refusal as u64
-        + 32 * visual as u64
-        + 64 * acoustic as u64
-        + 128 * answer.acceleration as u64
-        + 16384 * answer.desired as u64;
-    (word % 0x1_0000_0000) as u32
+impl From<Answer> for u32 {
+    ghost from_gives = { λ answer word. word ≡ word_of answer % 2 ^ 32 };
+
+    fn from(answer: Answer) -> u32 {
+        let visual = event::bit(answer.visual);
+        let acoustic = event::bit(answer.acoustic);
+        let word = 0xC000_0000
+            + answer.refusal as u64
+            + 32 * visual as u64
+            + 64 * acoustic as u64
+            + 128 * answer.acceleration as u64
+            + 16384 * answer.desired as u64;
+        (word % 0x1_0000_0000) as u32
+    }
 }
 
 // The word of the same figures with a refusal, from that with none.
 pub fn refusing(word: u32, refusal: u32) -> u32
     ensures { result ≡ (word + refusal) % 2 ^ 32 }
 {
-    ((word as u64 + refusal as u64) % 0x1_0000_0000) as u32
+    word.wrapping_add(refusal)
 }
 
 // The fields that a word's bits say, whatever else it holds.
 #[tactic(auto, using(kit::specs::Pick::picks), unfolding(crate::specs::AnswerWord::read_of))]
-pub fn read(word: u32) -> Answer
-    ensures { result ≡ read_of word }
-{
-    Answer {
-        refusal: word % 32,
-        visual: word / 32 % 2 == 1,
-        acoustic: word / 64 % 2 == 1,
-        acceleration: word / 128 % 128,
-        desired: word / 16384 % 2048,
+impl From<u32> for Answer {
+    ghost from_gives = { λ word answer. answer ≡ read_of word };
+
+    fn from(word: u32) -> Answer {
+        Answer {
+            refusal: word % 32,
+            visual: word / 32 % 2 == 1,
+            acoustic: word / 64 % 2 == 1,
+            acceleration: word / 128 % 128,
+            desired: word / 16384 % 2048,
+        }
     }
 }

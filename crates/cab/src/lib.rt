@@ -2,16 +2,16 @@
 #![tactic(auto)]
 
 ghost use Rattle.std.specs.Prelude.{◌≡◌};
+ghost use Rattle.event.specs.Refusal.{number};
 ghost use Rattle.car.specs.Drive.{drive_of};
 
 use car::Car;
+use event::Refusal;
 
-// Drives one word. The answer is the refusal, and the car is the one that the call by value gives, kept where it is refused.
-pub fn drive(car: &mut Car, word: u32) -> u32
-    ensures { (result ≡ (drive_of car.old word).refusal) × (car.new ≡ (drive_of car.old word).car) }
+// Drives one word: the car becomes the one that the call by value gives, and is kept where that refuses.
+pub fn drive(car: &mut Car, word: u32) -> Result<(), Refusal>
+    ensures { (number result ≡ (drive_of car.old word).refusal) × (car.new ≡ (drive_of car.old word).car) }
 {
-    let held = *car;
-    let driven = held.drive(word);
-    *car = driven.car;
-    driven.refusal
+    *car = car.drive(word)?;
+    Ok(())
 }

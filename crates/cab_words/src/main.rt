@@ -5,71 +5,51 @@
 ghost use Rattle.std.specs.Prelude.{◌≡◌};
 ghost use Rattle.car.specs.Drive.{drive_of};
 
-use car::drive::Driven;
-use car::{Car, Fresh};
+use car::Car;
+use event::refusal::number;
+use tester::Reader;
 
-// Lends a car of its own to the open call. The only function here that is proved by hand.
-fn lent(car: Car, word: u32) -> Driven
-    ensures { result ≡ drive_of car word }
+// Lends the car on to the open call: its refusal, 0 for none.
+fn lent(car: &mut Car, word: u32) -> u32
+    ensures { (result ≡ (drive_of car.old word).refusal) × (car.new ≡ (drive_of car.old word).car) }
 {
-    let mut c = car;
-    let refusal = cab::drive(&mut c, word);
-    Driven {
-        refusal: refusal,
-        car: c,
-    }
+    number(&cab::drive(car, word))
 }
 
-// The car, the index of the next word and the index past the text.
-#[derive(Clone, Copy)]
-struct State {
-    car: Car,
-    next: usize,
-    end: usize,
+fn line(car: &mut Car, word: u32, out: &mut [u8], at: usize) -> usize {
+    let refusal = lent(car, word);
+    let after = *car;
+    let end = tester::numbers(out, at, &[refusal, after.speed]);
+    tester::last(out, end, after.cruise.desired)
 }
 
-fn line(state: State, out: &mut [u8], words: &[u32]) -> State {
-    let car = state.car;
-    let driven = lent(car, tester::word(words, state.next));
-    let after = driven.car;
-    let end = tester::numbers(out, state.end, &[driven.refusal, after.speed]);
-    State {
-        car: after,
-        next: tester::past(words, state.next, 1),
-        end: tester::last(out, end, after.cruise.desired),
-    }
-}
-
-fn lines(first: Car, count: u32, out: &mut [u8], words: &[u32]) -> usize {
-    let mut state = State {
-        car: first,
-        next: 3,
-        end: 0,
-    };
+fn lines(first: Car, count: u32, mut input: Reader<'_>, out: &mut [u8]) -> usize {
+    let mut car = first;
+    let mut end = 0;
     for _ in 0..count {
-        state = line(state, out, words);
+        end = line(&mut car, input.next(), out, end);
     }
-    state.end
+    end
 }
 
-fn drive(out: &mut [u8], words: &[u32]) -> usize {
-    let count = tester::word(words, 0);
-    let mode = tester::word(words, 1);
-    let signs = tester::word(words, 2);
+fn drive(words: &[u32], out: &mut [u8]) -> usize {
+    let mut input = Reader { words, next: 0 };
+    let [count, mode, signs] = input.take::<3>();
     match Car::fresh(mode, signs) {
-        Fresh::Made(car) => lines(car, count, out, words),
-        Fresh::Refused(n) => tester::last(out, 0, n),
+        Ok(car) => lines(car, count, input, out),
+        Err(refusal) => tester::last(out, 0, u32::from(refusal)),
     }
 }
 
 fn main(rt: HostRuntime) {
     let mut words = [0; 16384];
-    let input = tester::read_words(&rt, &mut words, b"cab_words: standard input");
-    if input.failed {
-        return;
-    }
     let mut out = [0; 131072];
-    let count = input.count;
-    let end = drive(&mut out, &words[0..count]);
-    tester::write(&rt, &out, end, b"cab_words: standard output");
+    tester::run(
+        &rt,
+        &mut words,
+        &mut out,
+        b"cab_words: standard input",
+        b"cab_words: standard output",
+        drive,
+    );
 }

@@ -3,7 +3,10 @@
 // Prints for each its refusal (a lesson's counts behind it; a word's answer word, and whether the cars before and after it are alike), then its buffer, then the car's fields in document 01's order.
 #![tactic(auto)]
 
-use car::{Car, Fresh};
+use car::Car;
+use car::lesson::Taught;
+use event::refusal::number;
+use tester::Reader;
 
 // A lesson's words start here in the program's own array.
 const START: usize = 3;
@@ -14,179 +17,108 @@ const MOST: usize = 32;
 // What a call is to store over, or to keep.
 const UNUSED: u32 = 0xDEAD_BEEF;
 
-// The car, the index of the next word and the index past the text.
-#[derive(Clone, Copy)]
-struct State {
-    car: Car,
-    next: usize,
-    end: usize,
+fn fresh(car: &mut Car, input: &mut Reader<'_>, out: &mut [u8], at: usize) -> usize {
+    let [mode, signs] = input.take::<2>();
+    let made = Car::fresh(mode, signs);
+    let end = tester::words_line(out, at, &[number(&made)]);
+    let Ok(first) = made else {
+        return end;
+    };
+    *car = first;
+    tester::car_line(out, end, first)
 }
 
-fn fresh_lines(out: &mut [u8], at: usize, car: Car) -> usize {
-    let end = tester::words_line(out, at, &[0]);
-    tester::car_line(out, end, car)
+fn set(car: &mut Car, input: &mut Reader<'_>, at: usize) -> usize {
+    *car = tester::car_at(&input.take::<23>(), 0);
+    at
 }
 
-fn fresh(state: State, out: &mut [u8], words: &[u32]) -> State {
-    let mut settings = [0; 2];
-    tester::fill(&mut settings, words, state.next);
-    let next = tester::past(words, state.next, 2);
-    let car = state.car;
-    match Car::fresh(settings[0], settings[1]) {
-        Fresh::Made(made) => State {
-            car: made,
-            next: next,
-            end: fresh_lines(out, state.end, made),
-        },
-        Fresh::Refused(n) => State {
-            car: car,
-            next: next,
-            end: tester::words_line(out, state.end, &[n]),
-        },
-    }
+fn drive(car: &mut Car, input: &mut Reader<'_>, out: &mut [u8], at: usize) -> usize {
+    let word = input.next();
+    let before = *car;
+    let driven = before.drive(word);
+    let mut answer = [0];
+    let _ = before.lesson(&[word], &mut answer);
+    let refusal = number(&driven);
+    let after = driven.unwrap_or(before);
+    *car = after;
+    let alike = event::bit(alike::alike(before, after));
+    tester::words_line(out, at, &[refusal, answer[0], alike])
 }
 
-fn set(state: State, words: &[u32]) -> State {
-    State {
-        car: tester::car_at(words, state.next),
-        next: tester::past(words, state.next, 23),
-        end: state.end,
-    }
+fn taught(car: &mut Car, events: &[u32], buffer: &mut [u32], out: &mut [u8], at: usize) -> usize {
+    let before = *car;
+    let answer = before.lesson(events, buffer);
+    let refusal = number(&answer);
+    let taught = answer.unwrap_or(Taught {
+        car: before,
+        accepted: 0,
+        refused: 0,
+    });
+    *car = taught.car;
+    let line = tester::lesson_line(out, at, refusal, taught.accepted, taught.refused);
+    tester::words_line(out, line, buffer)
 }
 
-fn drive(state: State, out: &mut [u8], words: &[u32]) -> State {
-    let car = state.car;
-    let word = tester::word(words, state.next);
-    let driven = car.drive(word);
-    let mut answer = [0u32; 1];
-    car.lesson(&[word], &mut answer);
-    let after = driven.car;
-    let line = [
-        driven.refusal,
-        answer[0],
-        event::bit(alike::alike(car, after)),
-    ];
-    State {
-        car: after,
-        next: tester::past(words, state.next, 1),
-        end: tester::words_line(out, state.end, &line),
-    }
-}
-
-fn taught(
-    state: State,
-    out: &mut [u8],
-    words: &[u32],
-    events: &mut [u32],
-    buffer: &mut [u32],
-) -> State {
-    tester::fill(events, words, state.next);
-    let car = state.car;
-    let taught = car.lesson(events, buffer);
-    let after = taught.car;
-    let line = tester::lesson_line(
-        out,
-        state.end,
-        taught.refusal,
-        taught.accepted,
-        taught.refused,
-    );
-    State {
-        car: after,
-        next: tester::past(words, state.next, events.len()),
-        end: tester::words_line(out, line, buffer),
-    }
-}
-
-fn lesson(state: State, out: &mut [u8], words: &[u32]) -> State {
-    let size = tester::size(words, state.next, MOST);
-    let second = tester::past(words, state.next, 1);
-    let end = START + tester::size(words, second, MOST);
+fn lesson(car: &mut Car, input: &mut Reader<'_>, out: &mut [u8], at: usize) -> usize {
+    let size = input.size(MOST);
+    let end = START + input.size(MOST);
     let mut events = [0; 64];
     let mut buffer = [UNUSED; 64];
-    let mut from = state;
-    from.next = tester::past(words, second, 1);
-    taught(
-        from,
-        out,
-        words,
-        &mut events[START..end],
-        &mut buffer[0..size],
-    )
+    input.fill(&mut events[START..end]);
+    taught(car, &events[START..end], &mut buffer[..size], out, at)
 }
 
-fn kept(state: State, out: &mut [u8], buffer: &mut [u32]) -> State {
-    let car = state.car;
-    let kept = trainer::keep(car, buffer);
-    let after = kept.car;
-    let line = tester::words_line(out, state.end, &[kept.refusal]);
-    State {
-        car: after,
-        next: state.next,
-        end: tester::words_line(out, line, buffer),
-    }
+fn kept(car: &mut Car, buffer: &mut [u32], out: &mut [u8], at: usize) -> usize {
+    let before = *car;
+    let kept = trainer::keep(before, buffer);
+    let line = tester::words_line(out, at, &[number(&kept)]);
+    *car = kept.unwrap_or(before);
+    tester::words_line(out, line, buffer)
 }
 
-fn record_call(state: State, out: &mut [u8], words: &[u32]) -> State {
-    let size = tester::size(words, state.next, MOST);
+fn record_call(car: &mut Car, input: &mut Reader<'_>, out: &mut [u8], at: usize) -> usize {
+    let size = input.size(MOST);
     let mut buffer = [UNUSED; 64];
-    let mut from = state;
-    from.next = tester::past(words, state.next, 1);
-    kept(from, out, &mut buffer[0..size])
+    kept(car, &mut buffer[..size], out, at)
 }
 
-fn any_other(kind: u32, state: State, out: &mut [u8], words: &[u32]) -> State {
+fn any_other(kind: u32, car: &mut Car, input: &mut Reader<'_>, out: &mut [u8], at: usize) -> usize {
     match kind {
-        2 => set(state, words),
-        3 => drive(state, out, words),
-        4 => lesson(state, out, words),
-        _ => record_call(state, out, words),
+        2 => set(car, input, at),
+        3 => drive(car, input, out, at),
+        4 => lesson(car, input, out, at),
+        _ => record_call(car, input, out, at),
     }
 }
 
-fn call(kind: u32, state: State, out: &mut [u8], words: &[u32]) -> State {
+fn call(kind: u32, car: &mut Car, input: &mut Reader<'_>, out: &mut [u8], at: usize) -> usize {
     if kind == 1 {
-        return fresh(state, out, words);
+        return fresh(car, input, out, at);
     }
-    let mut after = any_other(kind, state, out, words);
-    let car = after.car;
-    after.end = tester::car_line(out, after.end, car);
-    after
+    let end = any_other(kind, car, input, out, at);
+    tester::car_line(out, end, *car)
 }
 
-// As many calls as there are words at most: each takes one.
-fn calls(first: Car, out: &mut [u8], words: &[u32]) -> usize {
-    let mut state = State {
-        car: first,
-        next: 0,
-        end: 0,
+fn calls(words: &[u32], out: &mut [u8]) -> usize {
+    let Ok(first) = Car::fresh(1, 0) else {
+        return tester::end_line(out, 0);
     };
-    for _ in 0..words.len() {
-        let kind = tester::word(words, state.next);
-        if kind == 0 {
-            return state.end;
-        }
-        state.next = tester::past(words, state.next, 1);
-        state = call(kind, state, out, words);
-    }
-    state.end
-}
-
-fn all_calls(out: &mut [u8], words: &[u32]) -> usize {
-    match Car::fresh(1, 0) {
-        Fresh::Made(car) => calls(car, out, words),
-        Fresh::Refused(_) => tester::end_line(out, 0),
-    }
+    let mut car = first;
+    tester::cases(words, out, |kind, input, out, at| {
+        call(kind, &mut car, input, out, at)
+    })
 }
 
 fn main(rt: HostRuntime) {
     let mut words = [0; 16384];
-    let input = tester::read_words(&rt, &mut words, b"calls: standard input");
-    if input.failed {
-        return;
-    }
     let mut out = [0; 131072];
-    let count = input.count;
-    let end = all_calls(&mut out, &words[0..count]);
-    tester::write(&rt, &out, end, b"calls: standard output");
+    tester::run(
+        &rt,
+        &mut words,
+        &mut out,
+        b"calls: standard input",
+        b"calls: standard output",
+        calls,
+    );
 }

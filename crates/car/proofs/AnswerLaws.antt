@@ -7,11 +7,10 @@ use Rattle.answer.proofs.AnswerWordLaws.{word_answers, is_refusal, is_visual, is
 use Rattle.motion.specs.Acceleration.{signed}
 use Rattle.motion.proofs.SignedLaws.{code_signed}
 use Rattle.car.specs.declared.Car.{Car}
-use Rattle.car.specs.declared.drive.Driven.{Driven}
+use Rattle.car.specs.Drive.{Driven, step_of}
 use Rattle.car.specs.Acceleration.{acceleration_of}
 use Rattle.car.proofs.AccelerationLaws.{acceleration_size}
 use Rattle.car.specs.Distance.{visual, acoustic}
-use Rattle.car.specs.Drive.{step_of}
 use Rattle.car.specs.Good.{good_of}
 use Rattle.car.proofs.GoodLaws.{good_ranges}
 use Rattle.car.specs.Lesson.{answering, answer_of}

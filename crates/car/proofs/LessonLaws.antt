@@ -14,8 +14,7 @@ use Rattle.checks.proofs.CheckLaws.{key_on_le, key_le, updown_le, foreback_le, p
 use Rattle.answer.specs.AnswerWord.{Fits}
 use Rattle.car.specs.declared.Car.{Car}
 use Rattle.car.specs.Checks.{own_check, input_check, event_check}
-use Rattle.car.specs.Drive.{reading_check, check_of, step_of}
-use Rattle.car.specs.declared.drive.Driven.{Driven}
+use Rattle.car.specs.Drive.{Driven, reading_check, check_of, step_of}
 use Rattle.car.specs.Good.{good_of}
 use Rattle.car.proofs.GoodLaws.{ceiling_le}
 use Rattle.car.specs.Standing.{Ranges}

@@ -11,12 +11,11 @@ use Rattle.answer.proofs.AnswerWordLaws.{word_fits, refused_word}
 use Rattle.motion.specs.Acceleration.{acceleration_code}
 use Rattle.motion.specs.Speed.{change, moved, at_most}
 use Rattle.car.specs.declared.Car.{Car}
-use Rattle.car.specs.declared.drive.Driven.{Driven}
+use Rattle.car.specs.Drive.{Driven, step_of}
 use Rattle.car.specs.declared.tick.Moved.{Moved}
 use Rattle.car.specs.Acceleration.{target_of, acceleration_of}
 use Rattle.car.specs.Car.{with_radar}
 use Rattle.car.specs.Distance.{secure_distance, ahead, within, close, visual, acoustic}
-use Rattle.car.specs.Drive.{step_of}
 use Rattle.car.specs.Lesson.{answering, answer_of, each_of}
 use Rattle.car.proofs.LessonLaws.{answering_fits}
 use Rattle.car.specs.LessonShape.{accepted_answer, second_passed, radar_tried, over_of}

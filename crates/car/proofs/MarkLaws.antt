@@ -15,9 +15,8 @@ use Rattle.event.specs.declared.Event.TheVariants as event
 use Rattle.event.specs.Words.{kind_of, read_of, input_of, input_event}
 use Rattle.event.proofs.WordLaws.{read_input}
 use Rattle.car.specs.declared.Car.{Car}
-use Rattle.car.specs.declared.drive.Driven.{Driven}
+use Rattle.car.specs.Drive.{Driven, input_next, event_next, check_of, step_of, accepted, reads, is_tick, accepted_tick}
 use Rattle.car.specs.Car.{with_levers, with_pedals, with_limiter, with_cruise, with_radar, with_gap}
-use Rattle.car.specs.Drive.{input_next, event_next, check_of, step_of, accepted, reads, is_tick, accepted_tick}
 use Rattle.car.proofs.DriveLaws.{accepted_as_lem, tick_read_taken}
 use Rattle.car.specs.LessonShape.{tick_refusal}
 use Rattle.car.specs.Good.{good_of}

@@ -13,11 +13,10 @@ use Rattle.event.specs.declared.Event.TheVariants as event
 use Rattle.event.specs.Words.{input_kind, input_range, in_range, read_of}
 use Rattle.event.proofs.WordLaws.{read_in_range, refused_number}
 use Rattle.car.specs.declared.Car.{Car}
-use Rattle.car.specs.declared.drive.Driven.{Driven}
+use Rattle.car.specs.Drive.{Driven, input_next, event_next, reading_check, check_of, reading_next, next_of, chosen, step_of, drive_of}
 use Rattle.car.specs.Car.{with_levers, with_limiter, with_cruise}
 use Rattle.checks.proofs.CheckLaws.{key_on_lem, updown_passed, foreback_passed, pedal_passed, button_passed, radar_passed, tick_passed}
 use Rattle.car.specs.Checks.{own_check, input_check, event_check}
-use Rattle.car.specs.Drive.{input_next, event_next, reading_check, check_of, reading_next, next_of, chosen, step_of, drive_of}
 use Rattle.car.specs.Good.{good_of}
 use Rattle.car.proofs.GoodLaws.{good, good_test}
 use Rattle.car.proofs.KeepLaws.{key_good, updown_good, moved_foreback_good, cruise_off_good, pedal_good, limiter_good, gap_good, sign_good, reading_good, tick_good}

@@ -11,8 +11,6 @@ use Rattle.car.specs.declared.Limiter.{Limiter}
 use Rattle.car.specs.declared.Cruise.{Cruise}
 use Rattle.car.specs.declared.RangeRadar.{RangeRadar}
 use Rattle.car.specs.declared.Car.{Car}
-use Rattle.car.specs.declared.Fresh.{Fresh}
-use Rattle.car.specs.declared.Fresh.TheVariants.{Made, Refused}
 
 -- "A fresh car is made from its settings: G = 20, R = 255, the rest 0"
 unfoldable pub fresh_car : Settings → Car
@@ -41,11 +39,6 @@ settings_of mode signs = record { mode = mode; signs = eqb signs 1 }
 -- 17: settings outside their values (no car)
 unfoldable pub check17 : ℕ → ℕ → Bool
 check17 mode signs = not (eqb mode 1) && not (eqb mode 2) || ltb 1 signs
-
--- what `Car::fresh` says: the car, or 17
-abbrev pub fresh_answer : Fresh → Answer Car
-fresh_answer (Made c) = gives c
-fresh_answer (Refused n) = refused n
 
 unfoldable pub fresh_of : ℕ → ℕ → Answer Car
 fresh_of mode signs = pick (check17 mode signs) (refused 17) (gives (fresh_car (settings_of mode signs)))

@@ -1,18 +1,29 @@
 -- One event word driven: document 01, "From file, pupil, radar, clock and caller" and "Rules of each event".
 -- Assumes nothing.
-use Rattle.std.specs.Prelude.{Bool, true, false, ◌&&◌, ℕ, eqb}
+use Rattle.std.specs.Prelude.{Bool, true, false, ◌&&◌, Result, Ok, Err, ℕ, eqb}
 use Rattle.kit.specs.Answer.{Answer, gives, refused}
 use Rattle.kit.specs.Pick.{pick}
 use Rattle.event.specs.declared.Input.{Input}
 use Rattle.event.specs.declared.Input.TheVariants.{Key, UpDown, ForeBack, Brake, Gas, Button, Gap, Sign, Radar}
 use Rattle.event.specs.declared.Event.{Event}
 use Rattle.event.specs.declared.Event.TheVariants as event
+use Rattle.event.specs.declared.refusal.Refusal.{Refusal}
+use Rattle.event.specs.Refusal.{refusal_number}
 use Rattle.event.specs.Words.{read_of}
 use Rattle.car.specs.declared.Car.{Car}
-use Rattle.car.specs.declared.drive.Driven.{Driven}
 use Rattle.car.specs.Checks.{event_check}
 use Rattle.car.specs.Good.{good_of}
 use Rattle.car.specs.Rules.{key_turned, up_down_moved, fore_back_moved, brake_pressed, gas_pressed, button_pressed, gap_chosen, sign_passed, reading_taken, ticked}
+
+-- the car after a word, and the word's refusal or 0
+pub record Driven : Type 0 where
+  pub car : Car
+  pub refusal : ℕ
+
+-- what a result says of a car that was driven: a refused word leaves it as it was
+abbrev pub drive_answer : Car → Result Car Refusal → Driven
+drive_answer c (Ok next) = record { car = next; refusal = 0 }
+drive_answer c (Err r) = record { car = c; refusal = refusal_number r }
 
 -- the next car by an event's rule
 unfoldable pub input_next : Car → Input → Car

@@ -1,16 +1,17 @@
 -- A lesson: document 01, "A lesson", and refusals 18 and 19.
 -- Assumes nothing.
-use Rattle.std.specs.Prelude.{List, [], ◌∷◌, ◌++◌, Bool, ◌||◌, ℕ, ◌+◌, eqb, ltb, length, drop}
+use Rattle.std.specs.Prelude.{List, [], ◌∷◌, ◌++◌, Bool, ◌||◌, Result, Ok, Err, ℕ, ◌+◌, eqb, ltb, length, drop}
 use Rattle.kit.specs.Pick.{pick}
+use Rattle.event.specs.declared.refusal.Refusal.{Refusal}
+use Rattle.event.specs.Refusal.{refusal_number}
 use Rattle.answer.specs.declared.Answer.{Answer}
 use Rattle.answer.specs.AnswerWord.{word_of}
 use Rattle.motion.specs.Acceleration.{acceleration_code}
 use Rattle.car.specs.declared.Car.{Car}
-use Rattle.car.specs.declared.drive.Driven.{Driven}
-use Rattle.car.specs.declared.lesson.Taught.{Taught}
+use Rattle.car.specs.declared.lesson.Taught as lesson
+use Rattle.car.specs.Drive.{Driven, step_of}
 use Rattle.car.specs.Acceleration.{acceleration_of}
 use Rattle.car.specs.Distance.{visual, acoustic}
-use Rattle.car.specs.Drive.{step_of}
 use Rattle.car.specs.Good.{good_of}
 
 -- "one answer word per event: kind 12, bits 0-4 refusal or 0, 5 visual, 6 acoustic, 7-13 a + 60, 14-24 D, the rest 0, all of the car
@@ -55,6 +56,18 @@ accepted_of c (w ∷ ws) = accepts (step_of c w) + accepted_of (step_of c w).car
 unfoldable pub refused_of : Car → List ℕ → ℕ
 refused_of c [] = 0
 refused_of c (w ∷ ws) = refuses (step_of c w) + refused_of (step_of c w).car ws
+
+-- what a lesson gives: the last car, how many words it accepted and refused, and its own refusal, 0, 18 or 19
+pub record Taught : Type 0 where
+  pub car : Car
+  pub accepted : ℕ
+  pub refused : ℕ
+  pub refusal : ℕ
+
+-- what a result says of a car that was taught: refused, it is kept, and the counts are 0
+abbrev pub lesson_answer : Car → Result lesson.Taught Refusal → Taught
+lesson_answer c (Ok t) = record { car = t.car; accepted = t.accepted; refused = t.refused; refusal = 0 }
+lesson_answer c (Err r) = record { car = c; accepted = 0; refused = 0; refusal = refusal_number r }
 
 -- a lesson that ran
 unfoldable pub taught_of : Car → List ℕ → Taught

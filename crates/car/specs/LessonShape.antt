@@ -6,9 +6,8 @@ use Rattle.kit.specs.Pick.{pick}
 use Rattle.event.specs.Words.{body_of, ready_of}
 use Rattle.checks.specs.Checks.{tick_check}
 use Rattle.car.specs.declared.Car.{Car}
-use Rattle.car.specs.declared.drive.Driven.{Driven}
+use Rattle.car.specs.Drive.{Driven, step_of}
 use Rattle.car.specs.Car.{with_radar}
-use Rattle.car.specs.Drive.{step_of}
 use Rattle.car.specs.Lesson.{answer_of}
 use Rattle.car.specs.Rules.{radar_tested}
 

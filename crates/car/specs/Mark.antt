@@ -1,13 +1,14 @@
 -- A speed mark: document 02, §5, "The event that passed fifty". Events are counted from 1, refused ones too, as the listing counts them.
 -- Assumes nothing.
-use Rattle.std.specs.Prelude.{Bool, false, ◌&&◌, ◌||◌, List, [], ◌∷◌, ◌++◌, ℕ, ◌+◌, ltb, leb, length, drop}
+use Rattle.std.specs.Prelude.{Bool, false, ◌&&◌, ◌||◌, List, [], ◌∷◌, ◌++◌, Result, Ok, Err, ℕ, ◌+◌, ltb, leb, length, drop}
 use Rattle.kit.specs.Pick.{pick}
+use Rattle.event.specs.declared.refusal.Refusal.{Refusal}
+use Rattle.event.specs.Refusal.{refusal_number}
 use Rattle.car.specs.declared.Car.{Car}
-use Rattle.car.specs.declared.lesson.Ran.{Ran}
-use Rattle.car.specs.declared.lesson.Taught.{Taught}
+use Rattle.car.specs.declared.lesson.Ran as lesson
 use Rattle.car.specs.Drive.{step_of, accepted_tick}
 use Rattle.car.specs.Good.{good_of}
-use Rattle.car.specs.Lesson.{driven, answers_of, accepted_of, refused_of}
+use Rattle.car.specs.Lesson.{Taught, driven, answers_of, accepted_of, refused_of}
 
 -- "v .. went from below the mark to the mark or above": an accepted tick that does so
 unfoldable pub passes : ℕ → Car → ℕ → Bool
@@ -32,6 +33,20 @@ found mark c (w ∷ ws) = passes mark c w || found mark (step_of c w).car ws
 
 -- ---- a lesson that stops where the mark `halt` is passed (0: nowhere) and counts the seconds that ended at the mark `mark` or above: what it
 -- gives, and its buffer. 18 and 19 as for every lesson
+-- the car behind the words driven, how many of them were accepted and refused, how many of their seconds ended at or above a mark, whether
+-- one passed the mark that stops it, and the refusal, 0, 18 or 19
+pub record Ran : Type 0 where
+  pub car : Car
+  pub accepted : ℕ
+  pub refused : ℕ
+  pub seconds : ℕ
+  pub found : Bool
+  pub refusal : ℕ
+
+abbrev pub run_answer : Car → Result lesson.Ran Refusal → Ran
+run_answer c (Ok t) = record { car = t.car; accepted = t.accepted; refused = t.refused; seconds = t.seconds; found = t.found; refusal = 0 }
+run_answer c (Err r) = record { car = c; accepted = 0; refused = 0; seconds = 0; found = false; refusal = refusal_number r }
+
 unfoldable pub ran_of : ℕ → ℕ → Car → List ℕ → Ran
 ran_of halt mark c ws =
     record {

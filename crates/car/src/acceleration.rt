@@ -4,11 +4,9 @@ ghost use Rattle.kit.specs.Bounds.{pedal_ceiling, speed_ceiling};
 ghost use Rattle.motion.specs.Acceleration.{speeding, slowing, brake_term, gas_term, braked, coasting, towards, cruising, acceleration_code};
 ghost use Rattle.motion.specs.AccelerationShape.{strived, urged_code};
 ghost use Rattle.car.specs.Acceleration.{target_of, acceleration_of};
-ghost use Rattle.car.specs.Standing.{Ranges, Good};
 
-use crate::Car;
-use motion::{Acceleration, apart, backed_off, decoded};
-use number::{least, less, most};
+use crate::checked::GoodCar;
+use motion::{Acceleration, backed_off, decoded};
 
 #[tactic(auto, using(motion::proofs::AccelerationShapeLaws::code_speeding))]
 fn speeding(size: u32) -> u32
@@ -69,7 +67,7 @@ fn strived(difference: u32) -> u32
     requires { difference ≤ speed_ceiling }
     ensures { result ≡ strived difference }
 {
-    most(1, difference * 10 / 36)
+    (difference * 10 / 36).max(1)
 }
 
 #[tactic(auto, using(motion::proofs::AccelerationShapeLaws::towards_at, motion::proofs::AccelerationShapeLaws::towards_below, motion::proofs::AccelerationShapeLaws::towards_above))]
@@ -80,11 +78,11 @@ fn towards(speed: u32, target: u32) -> u32
     if speed == target {
         return speeding(0);
     }
-    let strived = strived(apart(speed, target));
+    let strived = strived(speed.abs_diff(target));
     if speed < target {
-        return speeding(least(10, strived));
+        return speeding(strived.min(10));
     }
-    slowing(least(30, strived))
+    slowing(strived.min(30))
 }
 
 // a from the code of s, by the gas.
@@ -96,42 +94,39 @@ fn urged(gas: u32, s: u32) -> u32
     if gas == 0 {
         return s;
     }
-    60 + most(gas_term(gas), less(s, 60))
+    60 + gas_term(gas).max(s.saturating_sub(60))
 }
 
-impl Car {
+impl GoodCar {
     #[tactic(auto, using(motion::proofs::AccelerationShapeLaws::cruising_code, crate::proofs::AccelerationLaws::target_le), unfolding(crate::specs::Acceleration::target_of))]
     fn cruising(self) -> u32
-        requires { Ranges self }
-        ensures { result ≡ acceleration_code (cruising self.pedals.gas self.speed (target_of self)) }
+        ensures { result ≡ acceleration_code (cruising self.car.pedals.gas self.car.speed (target_of self.car)) }
     {
-        let target = motion::target(self.ahead(), self.cruise.desired, self.radar.lead);
-        urged(self.pedals.gas, towards(self.speed, target))
+        let target = motion::target(self.ahead(), self.car.cruise.desired, self.car.radar.lead);
+        urged(self.car.pedals.gas, towards(self.car.speed, target))
     }
 
     // a + 60. A good car with cruise on has the key on and no brake, so that its cases can come first; with the key not on it has neither
     // pedal down, which gives 0 by the last case.
     #[tactic(auto, using(crate::proofs::AccelerationShapeLaws::close_case, crate::proofs::AccelerationShapeLaws::cruising_case, crate::proofs::AccelerationShapeLaws::braked_case, crate::proofs::AccelerationShapeLaws::coasting_case))]
     pub(crate) fn acceleration_code(self) -> u32
-        requires { Good self }
-        ensures { result ≡ acceleration_code (acceleration_of self) }
+        ensures { result ≡ acceleration_code (acceleration_of self.car) }
     {
-        if self.cruise.on {
+        if self.car.cruise.on {
             if self.close() {
-                return backed_off(self.speed);
+                return backed_off(self.car.speed);
             }
             return self.cruising();
         }
-        if self.pedals.brake > 0 {
-            return braked(self.pedals.brake, self.speed);
+        if self.car.pedals.brake > 0 {
+            return braked(self.car.pedals.brake, self.car.speed);
         }
-        coasting(self.pedals.gas)
+        coasting(self.car.pedals.gas)
     }
 
     #[tactic(auto, using(crate::proofs::AccelerationShapeLaws::decoded_code))]
     pub(crate) fn acceleration(self) -> Acceleration
-        requires { Good self }
-        ensures { result ≡ acceleration_of self }
+        ensures { result ≡ acceleration_of self.car }
     {
         decoded(self.acceleration_code())
     }

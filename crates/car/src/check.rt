@@ -1,5 +1,6 @@
 // The checks 4 to 16 of a car (document 01, "From file, pupil, radar, clock and caller"): the first number that holds, or 0.
 ghost use Rattle.std.specs.Prelude.{◌≡◌};
+ghost use Rattle.event.specs.Refusal.{number};
 ghost use Rattle.car.specs.Checks.{own_check, input_check};
 ghost use Rattle.car.specs.LessonShape.{tick_refusal};
 
@@ -8,25 +9,22 @@ use checks::{
     button_check, fore_back_check, key_check, key_on, pedal_check, radar_check, tick_check,
     up_down_check,
 };
-use event::Input;
+use event::{Input, Refusal};
 
 impl Car {
     // Check 2 of a tick's word, then 15 and 16; `due` says whether the radar is tested in this second.
     #[tactic(auto, using(kit::specs::Pick::picks), unfolding(crate::specs::LessonShape::tick_refusal, event::specs::Words::unnamed_of))]
-    pub(crate) fn tick_refusal(self, word: u32, due: bool) -> u32
-        ensures { result ≡ tick_refusal self word due }
+    pub(crate) fn check_tick(self, word: u32, due: bool) -> Result<(), Refusal>
+        ensures { number result ≡ tick_refusal self word due }
     {
-        let refusal = event::tick_refusal(word);
-        if refusal != 0 {
-            return refusal;
-        }
+        event::check_tick(word)?;
         tick_check(self.radar.ready, due, self.now, event::tick_ready(word))
     }
 
     // What the input's own checks give.
     #[tactic(auto, using(kit::specs::Pick::picks), unfolding(crate::specs::Checks::own_check))]
-    fn own_check(self, input: Input) -> u32
-        ensures { result ≡ own_check self input }
+    fn own_check(self, input: Input) -> Result<(), Refusal>
+        ensures { number result ≡ own_check self input }
     {
         match input {
             Input::Key { position, ready } => key_check(self.key, self.speed, position, ready),
@@ -45,16 +43,16 @@ impl Car {
                 self.speed,
                 limit,
             ),
-            Input::Gap(_) => 0,
-            Input::Sign(_) => 0,
+            Input::Gap(_) => Ok(()),
+            Input::Sign(_) => Ok(()),
             Input::Radar { range: _, speed: _ } => radar_check(self.radar.ready),
         }
     }
 
     // The kinds 4 to 9 need the key on.
     #[tactic(auto, using(kit::specs::Pick::kinds), unfolding(crate::specs::Checks::input_check))]
-    pub(crate) fn check(self, input: Input) -> u32
-        ensures { result ≡ input_check self input }
+    pub(crate) fn check(self, input: Input) -> Result<(), Refusal>
+        ensures { number result ≡ input_check self input }
     {
         let own = self.own_check(input);
         match event::kind(input) {

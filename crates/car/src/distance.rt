@@ -2,9 +2,8 @@
 ghost use Rattle.std.specs.Prelude.{◌≡◌, ◌*◌, ◌≤◌};
 ghost use Rattle.car.specs.DistanceShape.{following, largest_product};
 ghost use Rattle.car.specs.Distance.{metres, secure_distance, ahead, within, close, visual, acoustic};
-ghost use Rattle.car.specs.Standing.{Ranges};
 
-use crate::Car;
+use crate::checked::GoodCar;
 
 // The way in metres at a speed, in a time of tenths of a second. A good car's products are held by 32 bits.
 #[tactic(auto, using(kit::specs::Pick::picks), unfolding(crate::specs::Distance::metres))]
@@ -15,55 +14,53 @@ fn metres(tenths: u32, speed: u32) -> u32
     tenths * speed / 360
 }
 
-impl Car {
+impl GoodCar {
     // The tenths of a second that the secure distance lasts.
     #[tactic(auto, using(kit::specs::Pick::picks), unfolding(crate::specs::DistanceShape::following))]
     fn following(self) -> u32
-        ensures { result ≡ following self }
+        ensures { result ≡ following self.car }
     {
-        if self.radar.lead > 200 {
-            return self.gap;
+        if self.car.radar.lead > 200 {
+            return self.car.gap;
         }
-        if (self.radar.lead == 0) | (self.radar.lead < self.radar.earlier) {
+        if (self.car.radar.lead == 0) | (self.car.radar.lead < self.car.radar.earlier) {
             return 25;
         }
         30
     }
 
-    // N
-    #[tactic(auto, using(kit::specs::Pick::picks, crate::specs::DistanceShape::following_le, crate::proofs::DistanceLaws::product_le, crate::specs::DistanceShape::secure_standing, crate::specs::DistanceShape::secure_following))]
-    pub(crate) fn secure_distance(self) -> u32
-        requires { Ranges self }
-        ensures { result ≡ secure_distance self }
-    {
-        if (self.radar.lead == 0) & (self.speed == 0) {
-            return 2;
-        }
-        metres(self.following(), self.speed)
-    }
-
     #[tactic(auto, using(kit::specs::Pick::picks), unfolding(crate::specs::Distance::ahead))]
     pub(crate) fn ahead(self) -> bool
-        ensures { result ≡ ahead self }
+        ensures { result ≡ ahead self.car }
     {
-        (self.settings.mode == 2)
-            & self.cruise.on
-            & (1 <= self.radar.range)
-            & (self.radar.range <= 254)
+        (self.car.settings.mode == 2)
+            & self.car.cruise.on
+            & (1 <= self.car.radar.range)
+            & (self.car.radar.range <= 254)
     }
 
     // A car ahead, nearer than the distance.
     #[tactic(auto, using(kit::specs::Pick::picks), unfolding(crate::specs::Distance::within))]
     fn within(self, distance: u32) -> bool
-        ensures { result ≡ within self distance }
+        ensures { result ≡ within self.car distance }
     {
-        self.ahead() & (self.radar.range < distance)
+        self.ahead() & (self.car.radar.range < distance)
+    }
+
+    // N
+    #[tactic(auto, using(kit::specs::Pick::picks, crate::specs::DistanceShape::following_le, crate::proofs::DistanceLaws::product_le, crate::specs::DistanceShape::secure_standing, crate::specs::DistanceShape::secure_following))]
+    pub(crate) fn secure_distance(self) -> u32
+        ensures { result ≡ secure_distance self.car }
+    {
+        if (self.car.radar.lead == 0) & (self.car.speed == 0) {
+            return 2;
+        }
+        metres(self.following(), self.car.speed)
     }
 
     #[tactic(auto, using(kit::specs::Pick::picks), unfolding(crate::specs::Distance::close, crate::specs::Distance::within))]
     pub(crate) fn close(self) -> bool
-        requires { Ranges self }
-        ensures { result ≡ close self }
+        ensures { result ≡ close self.car }
     {
         if !self.ahead() {
             return false;
@@ -74,27 +71,25 @@ impl Car {
     // A car ahead, nearer than the way in that many tenths of a second: R < p÷360 exactly when (R + 1)×360 ≤ p.
     #[tactic(auto, using(kit::specs::Pick::picks), unfolding(crate::specs::Distance::within, crate::specs::Distance::metres))]
     fn nearer(self, tenths: u32) -> bool
-        requires { Ranges self × (tenths ≤ 30) }
-        ensures { result ≡ within self (metres tenths self.speed) }
+        requires { tenths ≤ 30 }
+        ensures { result ≡ within self.car (metres tenths self.car.speed) }
     {
         if !self.ahead() {
             return false;
         }
-        (self.radar.range + 1) * 360 <= tenths * self.speed
+        (self.car.radar.range + 1) * 360 <= tenths * self.car.speed
     }
 
     #[tactic(auto, using(kit::specs::Pick::picks), unfolding(crate::specs::Distance::visual))]
     pub(crate) fn visual(self) -> bool
-        requires { Ranges self }
-        ensures { result ≡ visual self }
+        ensures { result ≡ visual self.car }
     {
         self.nearer(15)
     }
 
     #[tactic(auto, using(kit::specs::Pick::picks), unfolding(crate::specs::Distance::acoustic))]
     pub(crate) fn acoustic(self) -> bool
-        requires { Ranges self }
-        ensures { result ≡ acoustic self }
+        ensures { result ≡ acoustic self.car }
     {
         self.nearer(8)
     }

@@ -1,16 +1,14 @@
 // One event word driven.
-ghost use Rattle.std.specs.Prelude.{◌≡◌};
-ghost use Rattle.car.specs.Drive.{input_next, drive_of};
+ghost use Rattle.std.specs.Prelude.{◌≡◌, true, false, eqb};
+ghost use Rattle.event.specs.Words.{kind_of};
+ghost use Rattle.event.specs.Refusal.{number};
+ghost use Rattle.motion.specs.Acceleration.{acceleration_code};
+ghost use Rattle.car.specs.Acceleration.{acceleration_of};
+ghost use Rattle.car.specs.Drive.{drive_answer, input_next, step_of, drive_of};
 
 use crate::Car;
-use event::Input;
-
-// The car after a word, and the word's refusal or 0. A refused word leaves the car as it was.
-#[derive(Clone, Copy)]
-pub struct Driven {
-    pub refusal: u32,
-    pub car: Car,
-}
+use crate::checked::GoodCar;
+use event::{Input, Refusal};
 
 impl Car {
     // The next car by the input's rule.
@@ -31,23 +29,50 @@ impl Car {
         }
     }
 
-    // 18 for a car that is not good, then 1 to 16, then the rule: a lesson of one word, whose answer word holds the refusal.
-    pub fn drive(self, word: u32) -> Driven
-        ensures { result ≡ drive_of self word }
+    // 18 for a car that is not good, then 1 to 16, then the rule.
+    pub fn drive(self, word: u32) -> Result<Car, Refusal>
+        ensures { drive_answer self result ≡ drive_of self word }
     {
-        let mut answers = [0; 1];
-        let taught = self.lesson(&[word], &mut answers);
-        let car = taught.car;
-        if taught.refusal != 0 {
-            return Driven {
-                refusal: taught.refusal,
-                car: car,
-            };
+        let mut good = self.checked()?;
+        if event::is_tick(word) {
+            let code = good.acceleration_code();
+            good.drive_tick(word, code)?;
+        } else {
+            good.drive_input(word)?;
         }
-        let answer = answer::read(answers[0]);
-        Driven {
-            refusal: answer.refusal,
-            car: car,
+        Ok(good.car)
+    }
+}
+
+impl GoodCar {
+    // An input's word: 1 to 14, then its rule. A refused word leaves the car as it was.
+    pub(crate) fn drive_input(&mut self, word: u32) -> Result<(), Refusal>
+        requires { eqb (kind_of word) 10 ≡ false }
+        ensures refusal { number result ≡ (step_of self.old.car word).refusal }
+        ensures car { self.new.car ≡ (step_of self.old.car word).car }
+    {
+        let car = self.car;
+        let input = event::read_input(word)?;
+        car.check(input)?;
+        self.car = car.next(input);
+        Ok(())
+    }
+
+    // A tick's word, by the code of the car's acceleration: 2, 15 and 16, then a second.
+    pub(crate) fn drive_tick(&mut self, word: u32, code: u32) -> Result<(), Refusal>
+        requires { (code ≡ acceleration_code (acceleration_of self.old.car)) × (eqb (kind_of word) 10 ≡ true) }
+        ensures refusal { number result ≡ (step_of self.old.car word).refusal }
+        ensures car { self.new.car ≡ (step_of self.old.car word).car }
+    {
+        let good = *self;
+        let mut car = good.car;
+        let due = good.test_due();
+        car.check_tick(word, due)?;
+        car = car.tick(good.moved(code));
+        if due {
+            car = car.test_radar(event::tick_ready(word));
         }
+        self.car = car;
+        Ok(())
     }
 }

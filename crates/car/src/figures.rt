@@ -1,14 +1,14 @@
 // The figures that the dials show of a car.
-ghost use Rattle.std.specs.Prelude.{◌≡◌};
-ghost use Rattle.car.specs.Figures.{figures_of, shown};
-ghost use Rattle.car.specs.Standing.{Good};
+ghost use Rattle.std.specs.Prelude.{◌≡◌, Ok};
+ghost use Rattle.car.specs.Figures.{figures_answer, figures_of, shown};
 
 use crate::Car;
+use crate::checked::GoodCar;
+use event::Refusal;
 use motion::Acceleration;
 
-#[derive(Clone, Copy)]
+#[derive(Clone, Copy, Debug, Default, PartialEq, Eq)]
 pub struct Figures {
-    pub refusal: u32,
     pub speed: u32,
     pub desired: u32,
     pub acceleration: Acceleration,
@@ -17,46 +17,28 @@ pub struct Figures {
     pub distance: u32, // N
 }
 
-impl Car {
+impl GoodCar {
     #[tactic(auto, using(kit::specs::Pick::picks), unfolding(crate::specs::Figures::shown))]
     fn shown(self) -> Figures
-        requires { Good self }
-        ensures { result ≡ shown self }
+        ensures { figures_answer (Ok result) ≡ shown self.car }
     {
-        let acceleration = self.acceleration();
-        let visual = self.visual();
-        let acoustic = self.acoustic();
-        let distance = self.secure_distance();
         Figures {
-            refusal: 0,
-            speed: self.speed,
-            desired: self.cruise.desired,
-            acceleration: acceleration,
-            visual: visual,
-            acoustic: acoustic,
-            distance: distance,
+            speed: self.car.speed,
+            desired: self.car.cruise.desired,
+            acceleration: self.acceleration(),
+            visual: self.visual(),
+            acoustic: self.acoustic(),
+            distance: self.secure_distance(),
         }
     }
+}
 
-    // 18 and zeros for a car that is not good.
-    #[tactic(auto, using(kit::specs::Pick::picks, crate::proofs::GoodLaws::good), unfolding(crate::specs::Figures::figures_of, crate::specs::Figures::no_figures))]
-    pub fn figures(self) -> Figures
-        ensures { result ≡ figures_of self }
+impl Car {
+    // 18 for a car that is not good.
+    #[tactic(auto, using(kit::specs::Pick::picks), unfolding(crate::specs::Figures::figures_of, crate::specs::Figures::no_figures))]
+    pub fn figures(self) -> Result<Figures, Refusal>
+        ensures { figures_answer result ≡ figures_of self }
     {
-        if self.good() {
-            return self.shown();
-        }
-        Figures {
-            refusal: event::refusal::NOT_ACCEPTED,
-            speed: 0,
-            desired: 0,
-            acceleration: Acceleration {
-                slows: false,
-                size: 0,
-            },
-            visual: false,
-            acoustic: false,
-            distance: 0,
-        }
+        Ok(self.checked()?.shown())
     }
 }

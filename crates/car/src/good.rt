@@ -1,11 +1,9 @@
 // The good-car test: a car that an accepted record gives (document 01, "Standing rules" and "The record").
 ghost use Rattle.std.specs.Prelude.{◌≡◌};
 ghost use Rattle.car.specs.Good.{positions_of, numbers_of, ranges_of, times_of, off_of, rule_a, rule_b, rule_c, rule_d, rule_e, rule_f, obeys_of, good_of};
-ghost use Rattle.car.specs.Standing.{Ranges};
 
 use crate::{Car, ceiling};
 use desired::held;
-use number::less;
 
 impl Car {
     #[tactic(auto, using(kit::specs::Pick::picks), unfolding(crate::specs::Good::positions_of))]
@@ -108,24 +106,23 @@ impl Car {
 
     #[tactic(auto, using(kit::specs::Pick::picks), unfolding(crate::specs::Good::rule_e))]
     fn rule_e(self) -> bool
-        requires { Ranges self }
         ensures { result ≡ rule_e self }
     {
         ((self.radar.range == 255) == !self.radar.ready)
             & ((self.key != 2)
                 | ((self.radar.tested <= self.now)
-                    & (self.now < self.radar.tested + Car::TEST_PERIOD)))
+                    & (u64::from(self.now)
+                        < u64::from(self.radar.tested) + u64::from(Car::TEST_PERIOD))))
     }
 
     #[tactic(auto, using(kit::specs::Pick::picks), unfolding(crate::specs::Good::rule_f))]
     fn rule_f(self) -> bool
-        requires { Ranges self }
         ensures { result ≡ rule_f self }
     {
         if !(self.cruise.on & (self.levers.updown != 0)) {
             return true;
         }
-        let h = less(self.now, self.levers.time);
+        let h = self.now.saturating_sub(self.levers.time);
         let d = held(
             ceiling(self.settings),
             self.levers.updown,
@@ -137,7 +134,6 @@ impl Car {
 
     #[tactic(auto, using(kit::specs::Pick::picks), unfolding(crate::specs::Good::obeys_of))]
     fn obeys(self) -> bool
-        requires { Ranges self }
         ensures { result ≡ obeys_of self }
     {
         self.times()
@@ -149,13 +145,10 @@ impl Car {
             & self.rule_f()
     }
 
-    #[tactic(auto, using(kit::specs::Pick::picks, crate::proofs::GoodLaws::ranges), unfolding(crate::specs::Good::good_of))]
+    #[tactic(auto, using(kit::specs::Pick::picks), unfolding(crate::specs::Good::good_of))]
     pub fn good(self) -> bool
         ensures { result ≡ good_of self }
     {
-        if self.ranges() {
-            return self.obeys();
-        }
-        false
+        self.ranges() && self.obeys()
     }
 }

@@ -4,10 +4,12 @@
 #![tactic(auto, using(kit::specs::Pick::picks))]
 
 ghost use Rattle.std.specs.Prelude.{◌≡◌};
-ghost use Rattle.car.specs.Car.{fresh_answer, fresh_of, fresh_car, ceiling_of};
+ghost use Rattle.event.specs.Refusal.{answer};
+ghost use Rattle.car.specs.Car.{fresh_of, fresh_car, ceiling_of};
 
 mod acceleration;
 mod check;
+mod checked;
 mod distance;
 pub mod drive;
 pub mod figures;
@@ -15,6 +17,8 @@ mod good;
 pub mod lesson;
 mod rules;
 mod tick;
+
+use event::Refusal;
 
 #[derive(Clone, Copy)]
 pub struct Settings {
@@ -73,13 +77,6 @@ pub struct Car {
     pub speed: u32, // v
 }
 
-// A fresh car, or the refusal of its settings.
-#[derive(Clone, Copy)]
-pub enum Fresh {
-    Made(Car),
-    Refused(u32),
-}
-
 impl Car {
     pub const PEDAL_CEILING: u32 = number::bound::PEDAL;
 
@@ -91,14 +88,15 @@ impl Car {
 
     pub const LESSON_LENGTH: u32 = checks::LESSON_LENGTH;
 
+    // A fresh car, or the refusal of its settings.
     #[tactic(auto, using(kit::specs::Pick::picks), unfolding(crate::specs::Car::fresh_of, crate::specs::Car::check17, crate::specs::Car::settings_of))]
-    pub fn fresh(mode: u32, signs: u32) -> Fresh
-        ensures { fresh_answer result ≡ fresh_of mode signs }
+    pub fn fresh(mode: u32, signs: u32) -> Result<Car, Refusal>
+        ensures { answer result ≡ fresh_of mode signs }
     {
         if ((mode != 1) & (mode != 2)) | (signs > 1) {
-            return Fresh::Refused(event::refusal::SETTINGS);
+            return Err(Refusal::Settings);
         }
-        Fresh::Made(first(Settings {
+        Ok(first(Settings {
             mode: mode,
             signs: signs == 1,
         }))

@@ -4,7 +4,6 @@ ghost use Rattle.car.specs.Rules.{key_radar, key_turned, lever_desired, while_he
 
 use crate::{Car, Cruise, Limiter, Pedals, RangeRadar, ceiling};
 use desired::{manual_after, sign_desired, stepped};
-use number::least;
 
 #[tactic(auto, using(kit::specs::Pick::picks), unfolding(crate::specs::Rules::key_radar))]
 fn key_radar(position: u32, ready: bool, now: u32) -> RangeRadar
@@ -73,7 +72,7 @@ impl Car {
         if self.cruise.on {
             return stepped(ceiling(self.settings), position, self.cruise.desired);
         }
-        least(ceiling(self.settings), self.speed)
+        self.speed.min(ceiling(self.settings))
     }
 
     #[tactic(auto, using(kit::specs::Pick::picks), unfolding(crate::specs::Rules::up_down_moved, crate::specs::Car::with_cruise, crate::specs::Car::with_levers))]
@@ -106,7 +105,7 @@ impl Car {
         ensures { result ≡ start_desired self }
     {
         if self.cruise.desired == 0 {
-            return least(ceiling(self.settings), self.speed);
+            return self.speed.min(ceiling(self.settings));
         }
         self.cruise.desired
     }

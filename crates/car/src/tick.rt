@@ -9,10 +9,10 @@ ghost use Rattle.car.specs.LessonShape.{second_passed, radar_tried};
 ghost use Rattle.car.specs.Rules.{test_due, range_after, radar_tested, hold_desired, tick_desired, tick_speed};
 ghost use Rattle.car.specs.Standing.{Ranges};
 
+use crate::checked::GoodCar;
 use crate::{Car, RangeRadar, ceiling};
 use desired::long_held;
 use motion::at_most;
-use number::{least, less};
 
 #[tactic(auto, using(kit::specs::Pick::picks), unfolding(crate::specs::Rules::range_after))]
 fn range_after(ready: bool, range: u32) -> u32
@@ -45,9 +45,11 @@ fn speed_after(speed: u32, code: u32) -> u32
     ensures { result ≡ moved_by speed code }
 {
     if code < 60 {
-        return least(Car::SPEED_CEILING, less(speed, (60 - code) * 36 / 10));
+        return speed
+            .saturating_sub((60 - code) * 36 / 10)
+            .min(Car::SPEED_CEILING);
     }
-    least(Car::SPEED_CEILING, speed + (code - 60) * 36 / 10)
+    (speed + (code - 60) * 36 / 10).min(Car::SPEED_CEILING)
 }
 
 // D and v after a second.
@@ -58,72 +60,6 @@ pub(crate) struct Moved {
 }
 
 impl Car {
-    // The radar is tested in this second.
-    #[tactic(auto, using(kit::specs::Pick::picks), unfolding(crate::specs::Rules::test_due))]
-    pub(crate) fn test_due(self) -> bool
-        requires { Ranges self }
-        ensures { result ≡ test_due self }
-    {
-        (self.key == 2) & (self.now + 1 == self.radar.tested + Car::TEST_PERIOD)
-    }
-
-    // D after a second with cruise on, where the lever may be held.
-    #[tactic(auto, using(kit::specs::Pick::picks), unfolding(crate::specs::Rules::hold_desired))]
-    fn hold_desired(self) -> u32
-        requires { Ranges self }
-        ensures { result ≡ hold_desired self (self.now + 1 - self.levers.time) }
-    {
-        if self.levers.updown == 0 {
-            return self.cruise.desired;
-        }
-        self.held_for(less(self.now + 1, self.levers.time))
-    }
-
-    // D after h seconds with the lever out.
-    #[tactic(auto, using(kit::specs::Pick::picks), unfolding(crate::specs::Rules::hold_desired))]
-    fn held_for(self, h: u32) -> u32
-        requires { self.levers.updown ≡ 0 → ⊥ }
-        ensures { result ≡ hold_desired self h }
-    {
-        if h < 2 {
-            return self.cruise.desired;
-        }
-        long_held(
-            ceiling(self.settings),
-            self.levers.updown,
-            self.levers.base,
-            h,
-        )
-    }
-
-    // v after a second with cruise on, by D after it and by v as the limiter leaves it.
-    fn held_to(self, desired: u32, limited: u32) -> u32
-        ensures { result ≡ at_most (eqb self.pedals.gas 0 && leb self.speed desired) desired limited }
-    {
-        let holds = (self.pedals.gas == 0) & (self.speed <= desired);
-        at_most(holds, desired, limited)
-    }
-
-    // D and v after a second. The code is that of the car's acceleration.
-    pub(crate) fn moved(self, code: u32) -> Moved
-        requires { Ranges self × (code ≡ acceleration_code (acceleration_of self)) }
-        ensures { result ≡ record { desired = tick_desired self; speed = tick_speed self (tick_desired self) } }
-    {
-        let free = speed_after(self.speed, code);
-        let limited = at_most(self.limiter.on, self.limiter.limit, free);
-        if !self.cruise.on {
-            return Moved {
-                desired: self.cruise.desired,
-                speed: limited,
-            };
-        }
-        let desired = self.hold_desired();
-        Moved {
-            desired: desired,
-            speed: self.held_to(desired, limited),
-        }
-    }
-
     // A second passes.
     #[tactic(auto, using(kit::specs::Pick::picks), unfolding(crate::specs::LessonShape::second_passed))]
     pub(crate) fn tick(mut self, moved: Moved) -> Car
@@ -145,5 +81,71 @@ impl Car {
         let after = tested(radar, ready, self.now);
         self.radar = after;
         self
+    }
+}
+
+impl GoodCar {
+    // The radar is tested in this second.
+    #[tactic(auto, using(kit::specs::Pick::picks), unfolding(crate::specs::Rules::test_due))]
+    pub(crate) fn test_due(self) -> bool
+        ensures { result ≡ test_due self.car }
+    {
+        (self.car.key == 2) & (self.car.now + 1 == self.car.radar.tested + Car::TEST_PERIOD)
+    }
+
+    // D after h seconds with the lever out.
+    #[tactic(auto, using(kit::specs::Pick::picks), unfolding(crate::specs::Rules::hold_desired))]
+    fn held_for(self, h: u32) -> u32
+        requires { self.car.levers.updown ≡ 0 → ⊥ }
+        ensures { result ≡ hold_desired self.car h }
+    {
+        if h < 2 {
+            return self.car.cruise.desired;
+        }
+        long_held(
+            ceiling(self.car.settings),
+            self.car.levers.updown,
+            self.car.levers.base,
+            h,
+        )
+    }
+
+    // v after a second with cruise on, by D after it and by v as the limiter leaves it.
+    fn held_to(self, desired: u32, limited: u32) -> u32
+        ensures { result ≡ at_most (eqb self.car.pedals.gas 0 && leb self.car.speed desired) desired limited }
+    {
+        let holds = (self.car.pedals.gas == 0) & (self.car.speed <= desired);
+        at_most(holds, desired, limited)
+    }
+
+    // D after a second with cruise on, where the lever may be held.
+    #[tactic(auto, using(kit::specs::Pick::picks), unfolding(crate::specs::Rules::hold_desired))]
+    fn hold_desired(self) -> u32
+        ensures { result ≡ hold_desired self.car (self.car.now + 1 - self.car.levers.time) }
+    {
+        if self.car.levers.updown == 0 {
+            return self.car.cruise.desired;
+        }
+        self.held_for((self.car.now + 1).saturating_sub(self.car.levers.time))
+    }
+
+    // D and v after a second. The code is that of the car's acceleration.
+    pub(crate) fn moved(self, code: u32) -> Moved
+        requires { code ≡ acceleration_code (acceleration_of self.car) }
+        ensures { result ≡ record { desired = tick_desired self.car; speed = tick_speed self.car (tick_desired self.car) } }
+    {
+        let free = speed_after(self.car.speed, code);
+        let limited = at_most(self.car.limiter.on, self.car.limiter.limit, free);
+        if !self.car.cruise.on {
+            return Moved {
+                desired: self.car.cruise.desired,
+                speed: limited,
+            };
+        }
+        let desired = self.hold_desired();
+        Moved {
+            desired: desired,
+            speed: self.held_to(desired, limited),
+        }
     }
 }

@@ -2,8 +2,9 @@
 // order of document 01's fields, a line: refusal, speed, desired, acceleration, visual, acoustic, secure distance.
 #![tactic(auto)]
 
-use car::{Car, Fresh};
+use car::Car;
 use event::bit;
+use event::refusal::number;
 
 fn sign(out: &mut [u8], at: usize, slows: bool) -> usize {
     if slows {
@@ -13,9 +14,11 @@ fn sign(out: &mut [u8], at: usize, slows: bool) -> usize {
 }
 
 fn line(out: &mut [u8], at: usize, car: Car) -> usize {
-    let figures = car.figures();
+    let answer = car.figures();
+    let refusal = number(&answer);
+    let figures = answer.unwrap_or_default();
     let a = figures.acceleration;
-    let mut end = tester::numbers(out, at, &[figures.refusal, figures.speed, figures.desired]);
+    let mut end = tester::numbers(out, at, &[refusal, figures.speed, figures.desired]);
     end = sign(out, end, a.slows);
     end = tester::numbers(
         out,
@@ -27,40 +30,34 @@ fn line(out: &mut [u8], at: usize, car: Car) -> usize {
 
 fn lines(out: &mut [u8], start: usize, words: &[u32]) -> usize {
     let mut end = start;
-    for i in 0..words.len() / 23 {
-        end = line(out, end, tester::car_at(words, 23 * i));
+    for fields in words.chunks_exact(23) {
+        end = line(out, end, tester::car_at(fields, 0));
     }
     end
-}
-
-fn fresh(out: &mut [u8], at: usize, mode: u32, signs: u32) -> usize {
-    match Car::fresh(mode, signs) {
-        Fresh::Made(_) => tester::last(out, at, 0),
-        Fresh::Refused(n) => tester::last(out, at, n),
-    }
 }
 
 fn fresh_lines(out: &mut [u8]) -> usize {
     let mut end = 0;
     for i in 0..12 {
-        end = fresh(out, end, i / 3, i % 3);
+        end = tester::last(out, end, number(&Car::fresh(i / 3, i % 3)));
     }
     end
 }
 
-fn all_lines(out: &mut [u8], words: &[u32]) -> usize {
+fn all_lines(words: &[u32], out: &mut [u8]) -> usize {
     let start = fresh_lines(out);
     lines(out, start, words)
 }
 
 fn main(rt: HostRuntime) {
     let mut words = [0; 16384];
-    let input = tester::read_words(&rt, &mut words, b"car_figures: standard input");
-    if input.failed {
-        return;
-    }
     let mut out = [0; 131072];
-    let count = input.count;
-    let end = all_lines(&mut out, &words[0..count]);
-    tester::write(&rt, &out, end, b"car_figures: standard output");
+    tester::run(
+        &rt,
+        &mut words,
+        &mut out,
+        b"car_figures: standard input",
+        b"car_figures: standard output",
+        all_lines,
+    );
 }

@@ -1,23 +1,25 @@
 // The checks 4 to 16 over plain numbers (document 01, "From file, pupil, radar, clock and caller"): the first number that holds, or 0.
 #![tactic(auto, using(kit::specs::Pick::picks))]
 
-ghost use Rattle.std.specs.Prelude.{◌≡◌};
+ghost use Rattle.std.specs.Prelude.{◌≡◌, not, eqb};
+ghost use Rattle.kit.specs.Pick.{pick};
+ghost use Rattle.event.specs.Refusal.{number};
 ghost use Rattle.checks.specs.Checks.{key_on, key_skips, key_check, up_down_skips, up_down_check, fore_back_skips, fore_back_check, pedal_check, button_check, radar_check, tick_check};
 
-use event::refusal;
+use event::Refusal;
 
 // The last second of the clock, at which no tick is accepted.
 pub const LESSON_LENGTH: u32 = 86_400;
 
 // 4, before what the kind's own checks give.
 #[tactic(auto, using(kit::specs::Pick::picks), unfolding(crate::specs::Checks::key_on))]
-pub fn key_on(key: u32, refusal: u32) -> u32
-    ensures { result ≡ key_on key refusal }
+pub fn key_on(key: u32, own: Result<(), Refusal>) -> Result<(), Refusal>
+    ensures { number result ≡ key_on key (number own) }
 {
     if key != 2 {
-        return refusal::KEY_NOT_ON;
+        return Err(Refusal::KeyNotOn);
     }
-    refusal
+    own
 }
 
 #[tactic(auto, using(kit::specs::Pick::picks), unfolding(crate::specs::Checks::key_skips))]
@@ -28,22 +30,38 @@ fn key_skips(from: u32, to: u32) -> bool
 }
 
 #[tactic(auto, using(kit::specs::Pick::picks), unfolding(crate::specs::Checks::key_check))]
-pub fn key_check(key: u32, speed: u32, position: u32, ready: bool) -> u32
-    ensures { result ≡ key_check key speed position ready }
+pub fn key_check(key: u32, speed: u32, position: u32, ready: bool) -> Result<(), Refusal>
+    ensures { number result ≡ key_check key speed position ready }
 {
     if position == key {
-        return refusal::ALREADY_HELD;
+        return Err(Refusal::AlreadyHeld);
     }
     if speed > 0 {
-        return refusal::KEY_WHILE_MOVING;
+        return Err(Refusal::KeyWhileMoving);
     }
     if key_skips(key, position) {
-        return refusal::POSITION_SKIPPED;
+        return Err(Refusal::PositionSkipped);
     }
     if ready & (position != 2) {
-        return refusal::READY_BIT;
+        return Err(Refusal::ReadyBit);
     }
-    0
+    Ok(())
+}
+
+// Of either lever, by what it and the other one hold, and whether the move skips a position.
+fn lever_check(held: u32, other: u32, position: u32, skips: bool) -> Result<(), Refusal>
+    ensures { number result ≡ pick (eqb position held) 5 (pick skips 7 (pick (not (eqb other 0)) 8 0)) }
+{
+    if position == held {
+        return Err(Refusal::AlreadyHeld);
+    }
+    if skips {
+        return Err(Refusal::PositionSkipped);
+    }
+    if other != 0 {
+        return Err(Refusal::OtherLeverOut);
+    }
+    Ok(())
 }
 
 #[tactic(auto, using(kit::specs::Pick::picks), unfolding(crate::specs::Checks::up_down_skips))]
@@ -55,19 +73,11 @@ fn up_down_skips(from: u32, to: u32) -> bool
 
 // Of the up-down lever, by what it and the other lever hold.
 #[tactic(auto, using(kit::specs::Pick::picks), unfolding(crate::specs::Checks::up_down_check))]
-pub fn up_down_check(updown: u32, foreback: u32, position: u32) -> u32
-    ensures { result ≡ up_down_check updown foreback position }
+pub fn up_down_check(updown: u32, foreback: u32, position: u32) -> Result<(), Refusal>
+    ensures { number result ≡ up_down_check updown foreback position }
 {
-    if position == updown {
-        return refusal::ALREADY_HELD;
-    }
-    if up_down_skips(updown, position) {
-        return refusal::POSITION_SKIPPED;
-    }
-    if foreback != 0 {
-        return refusal::OTHER_LEVER_OUT;
-    }
-    0
+    let skips = up_down_skips(updown, position);
+    lever_check(updown, foreback, position, skips)
 }
 
 #[tactic(auto, using(kit::specs::Pick::picks), unfolding(crate::specs::Checks::fore_back_skips))]
@@ -79,74 +89,72 @@ fn fore_back_skips(from: u32, to: u32) -> bool
 
 // Of the fore-back lever, by what it and the other lever hold.
 #[tactic(auto, using(kit::specs::Pick::picks), unfolding(crate::specs::Checks::fore_back_check))]
-pub fn fore_back_check(foreback: u32, updown: u32, position: u32) -> u32
-    ensures { result ≡ fore_back_check foreback updown position }
+pub fn fore_back_check(foreback: u32, updown: u32, position: u32) -> Result<(), Refusal>
+    ensures { number result ≡ fore_back_check foreback updown position }
 {
-    if position == foreback {
-        return refusal::ALREADY_HELD;
-    }
-    if fore_back_skips(foreback, position) {
-        return refusal::POSITION_SKIPPED;
-    }
-    if updown != 0 {
-        return refusal::OTHER_LEVER_OUT;
-    }
-    0
+    let skips = fore_back_skips(foreback, position);
+    lever_check(foreback, updown, position, skips)
 }
 
 // Of brake or gas, by what it and the other pedal hold.
 #[tactic(auto, using(kit::specs::Pick::picks), unfolding(crate::specs::Checks::pedal_check))]
-pub fn pedal_check(held: u32, other: u32, value: u32) -> u32
-    ensures { result ≡ pedal_check held other value }
+pub fn pedal_check(held: u32, other: u32, value: u32) -> Result<(), Refusal>
+    ensures { number result ≡ pedal_check held other value }
 {
     if value == held {
-        return refusal::ALREADY_HELD;
+        return Err(Refusal::AlreadyHeld);
     }
     if other > 0 {
-        return refusal::OTHER_PEDAL_DOWN;
+        return Err(Refusal::OtherPedalDown);
     }
-    0
+    Ok(())
 }
 
 #[tactic(auto, using(kit::specs::Pick::picks), unfolding(crate::specs::Checks::button_check))]
-pub fn button_check(button: bool, foreback: u32, gas: u32, speed: u32, limit: u32) -> u32
-    ensures { result ≡ button_check button foreback gas speed limit }
+pub fn button_check(
+    button: bool,
+    foreback: u32,
+    gas: u32,
+    speed: u32,
+    limit: u32,
+) -> Result<(), Refusal>
+    ensures { number result ≡ button_check button foreback gas speed limit }
 {
     if button {
-        return refusal::BUTTON_IN;
+        return Err(Refusal::ButtonIn);
     }
     if foreback == 2 {
-        return refusal::BUTTON_WHILE_BACKWARD;
+        return Err(Refusal::ButtonWhileBackward);
     }
     if gas > 90 {
-        return refusal::BUTTON_WHILE_GAS;
+        return Err(Refusal::ButtonWhileGas);
     }
     if speed > limit {
-        return refusal::ABOVE_LIMIT;
+        return Err(Refusal::AboveLimit);
     }
-    0
+    Ok(())
 }
 
 #[tactic(auto, using(kit::specs::Pick::picks), unfolding(crate::specs::Checks::radar_check))]
-pub fn radar_check(ready: bool) -> u32
-    ensures { result ≡ radar_check ready }
+pub fn radar_check(ready: bool) -> Result<(), Refusal>
+    ensures { number result ≡ radar_check ready }
 {
     if !ready {
-        return refusal::RADAR_NOT_READY;
+        return Err(Refusal::RadarNotReady);
     }
-    0
+    Ok(())
 }
 
 // Of a tick with the bit `said`, by whether the radar is ready, and whether it is tested in this second.
 #[tactic(auto, using(kit::specs::Pick::picks), unfolding(crate::specs::Checks::tick_check))]
-pub fn tick_check(ready: bool, due: bool, now: u32, said: bool) -> u32
-    ensures { result ≡ tick_check ready due now said }
+pub fn tick_check(ready: bool, due: bool, now: u32, said: bool) -> Result<(), Refusal>
+    ensures { number result ≡ tick_check ready due now said }
 {
     if (said != ready) & !due {
-        return refusal::READY_BIT;
+        return Err(Refusal::ReadyBit);
     }
     if now >= LESSON_LENGTH {
-        return refusal::CLOCK_AT_END;
+        return Err(Refusal::ClockAtEnd);
     }
-    0
+    Ok(())
 }

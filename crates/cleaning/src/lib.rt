@@ -5,12 +5,12 @@
 
 ghost use Rattle.std.specs.Prelude.{◌≡◌, ◌≤◌, length};
 ghost use Rattle.kit.specs.Placed.{placed};
-ghost use Rattle.car.specs.Car.{fresh_answer};
+ghost use Rattle.event.specs.Refusal.{answer, number};
 ghost use Rattle.cleaning.specs.Cleaning.{open_of, end_refusal};
 ghost use Rattle.cleaning.specs.Pieces.{idle, words_turn, turn_in, answered};
 
-use car::{Car, Fresh};
-use event::refusal;
+use car::Car;
+use event::Refusal;
 
 // What a turn gives: the car behind it, how many of its bytes it used, and where the clean bytes end.
 #[derive(Clone, Copy)]
@@ -27,11 +27,11 @@ const ROOM: usize = 4096;
 
 // The settings word: the fresh car, or 17. Bytes behind the first four are passed over.
 #[tactic(auto, using(kit::specs::Pick::picks), unfolding(crate::specs::Cleaning::open_of))]
-pub fn open(bytes: &[u8]) -> Fresh
-    ensures { fresh_answer result ≡ open_of bytes.now }
+pub fn open(bytes: &[u8]) -> Result<Car, Refusal>
+    ensures { answer result ≡ open_of bytes.now }
 {
     if bytes.len() < 4 {
-        return Fresh::Refused(refusal::SETTINGS);
+        return Err(Refusal::Settings);
     }
     settings::start(wire::word_at(bytes, 0))
 }
@@ -53,22 +53,19 @@ fn clean_words(car: Car, words: &[u32], out: &mut [u8]) -> Turned
     ensures { (result ≡ answered (words_turn car words.now)) × (out.new ≡ placed out.old 0 (words_turn car words.now).bytes) }
 {
     let mut accepted = [0u32; WORDS];
-    let part = copy::from_car(car, words, &mut accepted);
-    if part.refusal != 0 {
+    let Ok(part) = copy::from_car(car, words, &mut accepted) else {
         return nothing_done(car);
-    }
-    let n = part.written;
-    let end = wire::bytes_of(&accepted[0..n], out);
-    let after = part.car;
+    };
     Turned {
-        car: after,
+        car: part.car,
         used: 4 * words.len(),
-        end: end,
+        end: wire::bytes_of(&accepted[..part.written], out),
     }
 }
 
 // One turn over the bytes that have come and were not used: the bytes of its accepted words stand in `out` from index 0 on. With less than 4,096
 // bytes there, or a car that is not good, nothing is done.
+#[tactic(auto, using(kit::specs::Pick::picks, kit::specs::Placed::placed_nothing), unfolding(crate::specs::Pieces::turn_in, crate::specs::Pieces::idle))]
 pub fn turn(car: Car, bytes: &[u8], out: &mut [u8]) -> Turned
     ensures { (result ≡ answered (turn_in out.old car bytes.now)) × (out.new ≡ placed out.old 0 (turn_in out.old car bytes.now).bytes) }
 {
@@ -77,16 +74,16 @@ pub fn turn(car: Car, bytes: &[u8], out: &mut [u8]) -> Turned
     }
     let mut words = [0u32; WORDS];
     let n = wire::words_of(bytes, &mut words);
-    clean_words(car, &words[0..n], out)
+    clean_words(car, &words[..n], out)
 }
 
-// The end of the file, after which so many bytes were not used: its refusal, 0 for none.
+// The end of the file, after which so many bytes were not used.
 #[tactic(auto, using(kit::specs::Pick::picks), unfolding(crate::specs::Cleaning::end_refusal))]
-pub fn close(held: usize) -> u32
-    ensures { result ≡ end_refusal held }
+pub fn close(held: usize) -> Result<(), Refusal>
+    ensures { number result ≡ end_refusal held }
 {
     if held == 0 {
-        return 0;
+        return Ok(());
     }
-    refusal::CUT_WORD
+    Err(Refusal::CutWord)
 }

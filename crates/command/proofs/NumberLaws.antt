@@ -1,12 +1,11 @@
 -- A text gives a number exactly where it is that number's decimal text (`decimal_of`, as the programs print it), with zeros in front or none.
 -- Assumes nothing.
-use Rattle.std.specs.Prelude.{Bool, true, false, ◌&&◌, not, List, [], ◌∷◌, ◌++◌, ◌≡◌, refl, ℕ, zero, suc, ◌+◌, ◌-◌, ◌*◌, ◌/◌, ◌%◌, ◌^◌, ◌≤◌, ◌<◌, eqb, leb, ltb, length, replicate}
+use Rattle.std.specs.Prelude.{Bool, true, false, ◌&&◌, not, List, [], ◌∷◌, ◌++◌, ◌≡◌, refl, ℕ, zero, suc, ◌+◌, ◌-◌, ◌*◌, ◌/◌, ◌%◌, ◌^◌, ◌≤◌, ◌<◌, eqb, leb, ltb, length, replicate, Some, None}
 use Rattle.std.proofs.Common.{append_assoc, append-nil, sym, ap, ◌∙◌, arith, le-leb, leb-true, ltb-true, ltb-false, ne_eqb, eqb-true, length-append}
 use Rattle.std.proofs.lemmas.Bool.{eqb-false}
 use Rattle.kit.specs.Pick.{pick, pick_true, and_both, and_l, and_r, not_is, not_of_false}
 use Rattle.listing.specs.Listing.{digit, decimal_of}
 use Rattle.listing.proofs.ListingLaws.{decimal_one, decimal_more}
-use Rattle.command.specs.declared.typed.Number.TheVariants.{Given, None}
 use Rattle.command.specs.Number.{is_digit, all_digits, value_from, is_number, number_in}
 
 -- ---- digits one after another
@@ -69,11 +68,11 @@ says_zeros zero n text s = s
 says_zeros (suc k) n text s = let t = says_zeros k n text s in record { digits = t.digits; value = t.value; some = omega arith }
 
 -- it is read as that number
-pub number_read : (k n : ℕ) → n < 2 ^ 32 → number_in (zeros k ++ decimal_of n) ≡ Given n
+pub number_read : (k n : ℕ) → n < 2 ^ 32 → number_in (zeros k ++ decimal_of n) ≡ Some n
 unfolding number_in is_number
 number_read k n h = is (zeros k ++ decimal_of n) (says_zeros k n (decimal_of n) (says_decimal n n (omega arith)))
   where
-    is : (text : List ℕ) → Says n text → pick (not (eqb (length text) 0) && all_digits text && leb (value_from 0 text) 4294967295) (Given (value_from 0 text)) None ≡ Given n
+    is : (text : List ℕ) → Says n text → pick (not (eqb (length text) 0) && all_digits text && leb (value_from 0 text) 4294967295) (Some (value_from 0 text)) None ≡ Some n
     is text s =
         rw s.value
         (pick_true _ _ _ (and_both _ _ (and_both _ _ (not_of_false _ (ne_eqb (length text) 0 (λ e. omega (arith, s.some)))) s.digits) (le-leb n 4294967295 (omega arith))))
@@ -123,11 +122,11 @@ digits_written (b ∷ c ∷ cs) a h = go (eqb b 48) refl (digits_written (c ∷ 
         let d : b ∷ [] ≡ decimal_of (10 * 0 + (b - 48)) = rw one at (sym (decimal_one (10 * 0 + (b - 48)) (omega arith))) in
         record { front = 0; is = ap (λ t. t ++ c ∷ cs) d ∙ decimal_behind (10 * 0 + (b - 48)) (c ∷ cs) n (and_r (is_digit b) (all_digits (c ∷ cs)) a) }
 
-pub number_written : (text : List ℕ) (n : ℕ) → number_in text ≡ Given n → (n < 2 ^ 32) × Written n text
+pub number_written : (text : List ℕ) (n : ℕ) → number_in text ≡ Some n → (n < 2 ^ 32) × Written n text
 unfolding number_in is_number pick
 number_written text n e = go (is_number text) refl e
   where
-    go : (t : Bool) → is_number text ≡ t → pick t (Given (value_from 0 text)) None ≡ Given n → (n < 2 ^ 32) × Written n text
+    go : (t : Bool) → is_number text ≡ t → pick t (Some (value_from 0 text)) None ≡ Some n → (n < 2 ^ 32) × Written n text
     go true t e =
         let value : value_from 0 text ≡ n = cc in
         let typed = and_l (not (eqb (length text) 0) && all_digits text) (leb (value_from 0 text) 4294967295) t in

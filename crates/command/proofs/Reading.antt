@@ -1,12 +1,11 @@
 -- What the loop of read_number keeps, and what it answers by it.
 -- Assumes nothing.
-use Rattle.std.proofs.Common.{true, false, ◌&&◌, not, List, [], ◌∷◌, ◌≡◌, refl, sym, ap, ◌∙◌, ℕ, ◌+◌, ◌-◌, ◌*◌, ◌≤◌, ◌<◌, arith, length, drop, get_or, eqb, leb}
+use Rattle.std.proofs.Common.{true, false, ◌&&◌, not, List, [], ◌∷◌, ◌≡◌, refl, sym, ap, ◌∙◌, ℕ, ◌+◌, ◌-◌, ◌*◌, ◌≤◌, ◌<◌, arith, length, drop, get_or, eqb, leb, Some, None}
 use Rattle.std.proofs.Math.Numerals.{add-one}
 use Rattle.std.proofs.Math.ListN.{drop_of_length-le}
 use Rattle.std.proofs.Math.Seq.{drop-cons}
-use Rattle.std.proofs.lemmas.Bool.{lt-leb, le-leb, eq-eqb, ne_eqb}
-use Rattle.kit.specs.Pick.{pick_true, pick_false, and_both, and_left, and_right, not_of_true, not_of_false, picks}
-use Rattle.command.specs.declared.typed.Number.TheVariants.{Given, None}
+use Rattle.std.proofs.lemmas.Bool.{le-leb, eq-eqb, ne_eqb}
+use Rattle.kit.specs.Pick.{pick_true, pick_false, and_both, and_left, not_of_true, not_of_false, picks}
 use Rattle.command.specs.Number.{is_digit, all_digits, value_from, is_number, number_in}
 use Rattle.command.proofs.NumberLaws.{value_rises}
 
@@ -36,19 +35,11 @@ module _ (text : List ℕ) (value i : ℕ) (left : Left text value i) (more : i 
   next : drop i text ≡ byte ∷ drop (i + 1) text
   next = rw add-one (drop-cons text i 0 more)
 
-  pub no_digit : is_digit byte ≡ false → None ≡ number_in text
-  unfolding is_number all_digits
+  pub no_digit : (leb 48 byte && leb byte 57) ≡ false → None ≡ number_in text
+  unfolding is_number all_digits is_digit
   no_digit h =
       let all : all_digits text ≡ false = sym left.digits ∙ rw next (and_left _ _ h) in
       no_number text (search picks)
-
-  pub below_digits : byte < 48 → None ≡ number_in text
-  unfolding is_digit
-  below_digits h = no_digit (and_left _ _ (lt-leb 48 byte h))
-
-  pub above_digits : 57 < byte → None ≡ number_in text
-  unfolding is_digit
-  above_digits h = no_digit (and_right (leb 48 byte) _ (lt-leb byte 57 h))
 
   further : value_from (10 * value + (byte - 48)) (drop (i + 1) text) ≡ value_from 0 text
   unfolding value_from
@@ -61,13 +52,11 @@ module _ (text : List ℕ) (value i : ℕ) (left : Left text value i) (more : i 
       let over : 4294967295 < value_from 0 text = omega (arith, further) in
       no_number text (search picks)
 
-  pub fewer_left : 48 ≤ byte → byte ≤ 57 → 10 * value + (byte - 48) ≤ 4294967295 → Left text (10 * value + (byte - 48)) (i + 1)
+  pub fewer_left : {more : ℕ} → (leb 48 byte && leb byte 57) ≡ true → more ≡ 10 * value + (byte - 48) → more ≤ 4294967295 → Left text more (i + 1)
   unfolding all_digits is_digit
-  fewer_left l h s =
-      let is : is_digit byte ≡ true = and_both _ _ (le-leb _ _ l) (le-leb _ _ h) in
-      record { within = omega arith; small = s; digits = rw (next, is) at left.digits; whole = further }
+  fewer_left h e s = record { within = omega arith; small = s; digits = rw (next, h) at left.digits; whole = rw e further }
 
-pub none_left : (text : List ℕ) (value i : ℕ) → Left text value i → (length text ≡ 0 → ⊥) → length text ≤ i → Given value ≡ number_in text
+pub none_left : (text : List ℕ) (value i : ℕ) → Left text value i → (length text ≡ 0 → ⊥) → length text ≤ i → Some value ≡ number_in text
 unfolding number_in is_number all_digits value_from
 none_left text value i left some h =
     let end : drop i text ≡ [] = drop_of_length-le text h in
@@ -75,4 +64,4 @@ none_left text value i left some h =
     let is : value ≡ value_from 0 text = rw end at left.whole in
     let test : (not (eqb (length text) 0) && all_digits text && leb (value_from 0 text) 4294967295) ≡ true
     = and_both _ _ (and_both _ _ (not_of_false _ (ne_eqb _ _ some)) all) (le-leb (value_from 0 text) 4294967295 (omega (arith, left.small))) in
-    ap Given is ∙ sym (pick_true _ _ _ test)
+    ap Some is ∙ sym (pick_true _ _ _ test)

@@ -1,9 +1,7 @@
 -- A number that was typed as an argument: decimal digits alone, zeros in front allowed, at most 2^32 - 1.
 -- Assumes nothing.
-use Rattle.std.specs.Prelude.{Bool, true, ◌&&◌, not, List, [], ◌∷◌, ℕ, ◌+◌, ◌-◌, ◌*◌, eqb, leb, length}
+use Rattle.std.specs.Prelude.{Bool, true, ◌&&◌, not, List, [], ◌∷◌, ℕ, ◌+◌, ◌-◌, ◌*◌, eqb, leb, length, Option, Some, None}
 use Rattle.kit.specs.Pick.{pick}
-use Rattle.command.specs.declared.typed.Number.{Number}
-use Rattle.command.specs.declared.typed.Number.TheVariants.{Given, None}
 
 -- "0" to "9"
 unfoldable pub is_digit : ℕ → Bool
@@ -21,5 +19,5 @@ value_from n (b ∷ bs) = value_from (10 * n + (b - 48)) bs
 unfoldable pub is_number : List ℕ → Bool
 is_number text = not (eqb (length text) 0) && all_digits text && leb (value_from 0 text) 4294967295
 
-unfoldable pub number_in : List ℕ → Number
-number_in text = pick (is_number text) (Given (value_from 0 text)) None
+unfoldable pub number_in : List ℕ → Option ℕ
+number_in text = pick (is_number text) (Some (value_from 0 text)) None

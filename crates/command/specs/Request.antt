@@ -1,12 +1,16 @@
 -- What is asked of a program that reads one file.
 -- Assumes nothing.
-use Rattle.std.specs.Prelude.{ℕ}
+use Rattle.std.specs.Prelude.{ℕ, ◌≤◌, List, length, Result, IfOk}
+use Rattle.console.specs.declared.Told.{Told}
 use Rattle.command.specs.declared.Request.{Request}
-use Rattle.command.specs.declared.Request.TheVariants.{Input, Help, Usage, Nothing}
+use Rattle.command.specs.declared.Request.TheVariants.{Input, Help, Usage}
 
 -- where the input's name ends in the buffer
-abbrev pub name_end : Request → ℕ
-name_end (Input file end) = end
+abbrev pub name_end : {B : Type 0} → Request B → ℕ
+name_end (Input before file end) = end
 name_end Help = 0
 name_end Usage = 0
-name_end Nothing = 0
+
+-- an input's name ends in the buffer, where no failure was told
+abbrev pub NameWithin : {B : Type 0} → Result (Request B) Told → List ℕ → Type 0
+NameWithin asked what = IfOk asked (λ request. name_end request ≤ length what)

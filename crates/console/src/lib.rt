@@ -2,8 +2,9 @@
 // say nothing of their bytes; of those that say which bytes they have, as one over memory, the contracts say what is read and written.
 #![tactic(auto)]
 
-ghost use Rattle.std.specs.Prelude.{◌≡◌, true, false, ◌≤◌, ◌<◌, length, take};
-ghost use Rattle.std.specs.Io.KnownBytes.{Appends, Consumes, IsAtEnd, Keeps};
+ghost use Rattle.std.specs.Prelude.{◌≡◌, ◌≤◌, ◌<◌, length, take, IfOk, IsOk, OnOk};
+ghost use Rattle.std.specs.Io.{ReadsAtMost};
+ghost use Rattle.std.specs.Io.KnownBytes.{Appends, Consumes, IsAtEnd, ReadConsumes};
 
 use std::fmt::Display;
 use std::fs::File;
@@ -26,12 +27,9 @@ impl Read for Source {
     }
 }
 
-// How many bytes were read, and whether the read failed. None and not failed: the input has ended.
-#[derive(Clone, Copy)]
-pub struct Reading {
-    pub count: usize,
-    pub failed: bool,
-}
+// A failure that has been told, on standard error.
+#[derive(Clone, Copy, Debug, PartialEq, Eq)]
+pub struct Told;
 
 // Puts a value's text at the start of `text`, and says how long it is.
 fn put<D: Display + Drop>(text: &mut [u8; 256], value: D) -> usize
@@ -42,7 +40,7 @@ fn put<D: Display + Drop>(text: &mut [u8; 256], value: D) -> usize
     256usize.saturating_sub(rest.len())
 }
 
-// Puts the system's text for an error at the start of `text`, and says how long it is: std puts the error's number behind it.
+// Puts the system's text for an error at the start of `text`, and says how long it is. std has none without the error's number behind it.
 fn put_reason(text: &mut [u8; 256], error: &io::Error) -> usize
     ensures { result ≤ 256 }
 {
@@ -57,13 +55,14 @@ fn put_reason(text: &mut [u8; 256], error: &io::Error) -> usize
 }
 
 // Tells a failure: what failed, as the caller names it, a colon and the reason.
-pub fn fail<E: Write>(errors: &mut E, what: &[u8], error: io::Error) {
+pub fn fail<E: Write>(errors: &mut E, what: &[u8], error: io::Error) -> Told {
     let mut text = [0u8; 256];
     let end = put_reason(&mut text, &error);
     let _ = errors.write_all(what);
     let _ = errors.write_all(b": ");
     let _ = errors.write_all(&text[0..end]);
     let _ = errors.write_all(b"\n");
+    Told
 }
 
 // The system's number for text in another coding.
@@ -73,25 +72,20 @@ pub fn standard_input(rt: &HostRuntime) -> Source {
     Source::Standard(rt.stdin())
 }
 
-fn told<E: Write>(errors: &mut E, what: &[u8], error: io::Error) -> Option<Source> {
-    fail(errors, what, error);
-    None
-}
-
 // Opens a file by its name. One that is no UTF-8 is none that std opens. `what` is the program and that name.
 pub fn open<E: Write>(
     rt: &HostRuntime,
     errors: &mut E,
     name: &[u8],
     what: &[u8],
-) -> Option<Source> {
-    let Ok(path) = std::str::from_utf8(name) else {
-        return told(errors, what, io::Error::from_raw_os_error(EILSEQ));
+) -> Result<Source, Told> {
+    let opened = match std::str::from_utf8(name) {
+        Ok(path) => File::open(rt, path),
+        Err(_) => Err(io::Error::from_raw_os_error(EILSEQ)),
     };
-    match File::open(rt, path) {
-        Ok(file) => Some(Source::File(file)),
-        Err(error) => told(errors, what, error),
-    }
+    opened
+        .map(Source::File)
+        .map_err(|error| fail(errors, what, error))
 }
 
 // Reads what has come, at least a byte where the input has not ended. `what` is the program and the input's name.
@@ -100,73 +94,51 @@ pub fn read<I: Read, E: Write>(
     errors: &mut E,
     bytes: &mut [u8],
     what: &[u8],
-) -> Reading
-    ensures count { result.count ≤ length bytes.new }
-    ensures failed { result.failed ≡ true → result.count ≡ 0 }
-    ensures bytes { result.failed ≡ false → Consumes (I.remaining input.old) (I.remaining input.new) (take result.count bytes.new) }
-    ensures end { result.failed ≡ false → result.count ≡ 0 → 0 < length bytes.new → IsAtEnd (I.remaining input.new) }
-    ensures kept { result.failed ≡ true → Keeps (I.remaining input.old) (I.remaining input.new) }
+) -> Result<usize, Told>
+    ensures bound { ReadsAtMost result bytes.new }
+    ensures bytes { ReadConsumes (I.remaining input.old) (I.remaining input.new) result bytes.new }
 {
-    match input.read(bytes) {
-        Ok(count) => Reading {
-            count,
-            failed: false,
-        },
-        Err(error) => {
-            fail(errors, what, error);
-            Reading {
-                count: 0,
-                failed: true,
-            }
-        }
-    }
+    input.read(bytes).map_err(|error| fail(errors, what, error))
 }
 
 // Reads until the input ends or there is no more room.
+#[tactic(auto, using(crate::proofs::Filling::more_read, crate::proofs::Filling::taken))]
 pub fn read_all<I: Read, E: Write>(
     input: &mut I,
     errors: &mut E,
     bytes: &mut [u8],
     what: &[u8],
-) -> Reading
-    ensures count { result.count ≤ length bytes.new }
-    ensures failed { result.failed ≡ true → result.count ≡ 0 }
-    ensures bytes { result.failed ≡ false → Consumes (I.remaining input.old) (I.remaining input.new) (take result.count bytes.new) }
-    ensures end { result.failed ≡ false → result.count < length bytes.new → IsAtEnd (I.remaining input.new) }
+) -> Result<usize, Told>
+    ensures bound { ReadsAtMost result bytes.new }
+    ensures bytes { IfOk result (λ n. Consumes (I.remaining input.old) (I.remaining input.new) (take n bytes.new)) }
+    ensures end { IfOk result (λ n. n < length bytes.new → IsAtEnd (I.remaining input.new)) }
 {
+    // std has no read that fills a slice as far as the input goes and says how many bytes came.
     let mut at = 0;
     while at < bytes.len() {
-        let got = read(input, errors, &mut bytes[at..], what);
-        if got.failed {
-            return Reading {
-                count: 0,
-                failed: true,
-            };
-        }
-        if got.count == 0 {
+        let count = read(input, errors, &mut bytes[at..], what)?;
+        if count == 0 {
             break;
         }
-        at += got.count;
+        at += count;
     }
-    Reading {
-        count: at,
-        failed: false,
-    }
+    Ok(at)
 }
 
-// Writes a text, and says whether all of it went out. For no text nothing is done.
-pub fn write<O: Write, E: Write>(output: &mut O, errors: &mut E, text: &[u8], what: &[u8]) -> bool
-    ensures nothing { length text.now ≡ 0 → result ≡ true }
-    ensures bytes { result ≡ true → Appends (O.contents output.old) (O.contents output.new) text.now }
+// Writes a text. For none nothing is done.
+pub fn write<O: Write, E: Write>(
+    output: &mut O,
+    errors: &mut E,
+    text: &[u8],
+    what: &[u8],
+) -> Result<(), Told>
+    ensures nothing { length text.now ≡ 0 → IsOk result }
+    ensures bytes { OnOk result (Appends (O.contents output.old) (O.contents output.new) text.now) }
 {
-    if text.len() == 0 {
-        return true;
+    if text.is_empty() {
+        return Ok(());
     }
-    match output.write_all(text) {
-        Ok(()) => true,
-        Err(error) => {
-            fail(errors, what, error);
-            false
-        }
-    }
+    output
+        .write_all(text)
+        .map_err(|error| fail(errors, what, error))
 }

@@ -5,10 +5,15 @@
 // file its refusal and the number of its words, then the words.
 #![tactic(auto)]
 
-ghost use Rattle.std.specs.Prelude.{◌≤◌, length};
+ghost use Rattle.std.specs.Prelude.{◌≤◌};
 
-use car::{Car, Fresh};
+use car::Car;
+use copy::Part;
+use event::Refusal;
+use event::refusal::number;
+use std::convert::Infallible;
 use std::io;
+use tester::Reader;
 
 // A lesson's words start here in the program's own array.
 const START: usize = 3;
@@ -19,12 +24,10 @@ const MOST: usize = 3072;
 // What a call is to store over, or to keep.
 const UNUSED: u32 = 0xDEAD_BEEF;
 
-// The index of the next word of the input and the index past the text.
-#[derive(Clone, Copy)]
-struct Place {
-    next: usize,
-    end: usize,
-}
+// A file and its clean file have no more bytes, and so many words.
+const BYTES: usize = 4112;
+
+const WORDS: usize = 1028;
 
 fn copy_lines(out: &mut [u8], at: usize, refusal: u32, written: usize, buffer: &[u32]) -> usize {
     let end = tester::count_line(out, at, refusal, written);
@@ -40,7 +43,8 @@ fn by_call(
     buffer: &mut [u32],
 ) -> usize {
     let copied = copy::of_lesson(mode, signs, words, buffer);
-    copy_lines(out, at, copied.refusal, copied.written, buffer)
+    let refusal = number(&copied);
+    copy_lines(out, at, refusal, copied.unwrap_or(0), buffer)
 }
 
 fn by_library(
@@ -56,240 +60,145 @@ fn by_library(
 }
 
 fn by_car(out: &mut [u8], at: usize, car: Car, words: &[u32], buffer: &mut [u32]) -> usize {
-    let part = copy::from_car(car, words, buffer);
-    let after = part.car;
-    let end = copy_lines(out, at, part.refusal, part.written, buffer);
-    tester::car_line(out, end, after)
+    let copied = copy::from_car(car, words, buffer);
+    let refusal = number(&copied);
+    let part = copied.unwrap_or(Part {
+        car: car,
+        written: 0,
+    });
+    let end = copy_lines(out, at, refusal, part.written, buffer);
+    tester::car_line(out, end, part.car)
 }
 
-// What a copy starts from: settings, or a car as it stands.
-#[derive(Clone, Copy)]
-enum Source {
-    Settings(u32, u32),
-    Standing(Car),
+// The next words of the input, behind their count, in a part of the program's own array.
+fn lesson<'a>(words: &'a mut [u32; 3075], input: &mut Reader<'_>) -> &'a [u32] {
+    let part = &mut words[START..START + input.size(MOST)];
+    input.fill(part);
+    part
 }
 
-fn from_settings(
-    out: &mut [u8],
-    at: usize,
-    mode: u32,
-    signs: u32,
-    words: &[u32],
-    room: usize,
-) -> usize
-    requires { room ≤ 3072 }
-{
+fn settings_case(input: &mut Reader<'_>, out: &mut [u8], at: usize) -> usize {
+    let [mode, signs] = input.take::<2>();
+    let room = input.size(MOST);
+    let mut array = [0; 3075];
+    let words = lesson(&mut array, input);
     let mut buffer = [UNUSED; MOST];
-    let end = by_call(out, at, mode, signs, words, &mut buffer[0..room]);
+    let end = by_call(out, at, mode, signs, words, &mut buffer[..room]);
     let mut other = [UNUSED; MOST];
-    by_library(
-        out,
-        end,
-        tester::settings_word(mode, signs),
-        words,
-        &mut other[0..room],
-    )
+    let settings = tester::settings_word(mode, signs);
+    by_library(out, end, settings, words, &mut other[..room])
 }
 
-fn from_car(out: &mut [u8], at: usize, car: Car, words: &[u32], room: usize) -> usize
-    requires { room ≤ 3072 }
-{
+fn car_case(input: &mut Reader<'_>, out: &mut [u8], at: usize) -> usize {
+    let car = tester::car_at(&input.take::<23>(), 0);
+    let room = input.size(MOST);
+    let mut array = [0; 3075];
+    let words = lesson(&mut array, input);
     let mut buffer = [UNUSED; MOST];
-    by_car(out, at, car, words, &mut buffer[0..room])
+    by_car(out, at, car, words, &mut buffer[..room])
 }
 
-fn from_source(source: Source, out: &mut [u8], at: usize, words: &[u32], room: usize) -> usize
-    requires { room ≤ 3072 }
-{
-    match source {
-        Source::Settings(mode, signs) => from_settings(out, at, mode, signs, words, room),
-        Source::Standing(car) => from_car(out, at, car, words, room),
-    }
-}
-
-// A copy of the next words of the input.
-fn copy_words(
-    place: Place,
-    source: Source,
-    out: &mut [u8],
-    input: &[u32],
-    words: &mut [u32],
-    room: usize,
-) -> Place
-    requires { room ≤ 3072 }
-{
-    tester::fill(words, input, place.next);
-    Place {
-        next: tester::past(input, place.next, words.len()),
-        end: from_source(source, out, place.end, words, room),
-    }
-}
-
-// A copy whose room, count and words stand behind its source.
-fn copy_case(place: Place, source: Source, out: &mut [u8], input: &[u32]) -> Place {
-    let room = tester::size(input, place.next, MOST);
-    let second = tester::past(input, place.next, 1);
-    let end = START + tester::size(input, second, MOST);
-    let mut words = [0; 3075];
-    let from = Place {
-        next: tester::past(input, second, 1),
-        end: place.end,
-    };
-    copy_words(from, source, out, input, &mut words[START..end], room)
-}
-
-fn settings_case(place: Place, out: &mut [u8], input: &[u32]) -> Place {
-    let mut settings = [0; 2];
-    tester::fill(&mut settings, input, place.next);
-    let behind = Place {
-        next: tester::past(input, place.next, 2),
-        end: place.end,
-    };
-    copy_case(
-        behind,
-        Source::Settings(settings[0], settings[1]),
-        out,
-        input,
-    )
-}
-
-fn car_case(place: Place, out: &mut [u8], input: &[u32]) -> Place {
-    let car = tester::car_at(input, place.next);
-    let behind = Place {
-        next: tester::past(input, place.next, 23),
-        end: place.end,
-    };
-    copy_case(behind, Source::Standing(car), out, input)
-}
-
-// What was made of a file: its refusal, and how many bytes its clean file has.
-#[derive(Clone, Copy)]
-struct Cleaned {
-    refusal: u32,
-    count: usize,
-}
-
-// The clean file's bytes, piece by piece behind the settings word.
-fn clean_pieces(first: Car, bytes: &[u8], cut: usize, clean: &mut [u8]) -> Cleaned
-    requires { (4 ≤ length bytes.now) × (1 ≤ cut) }
-{
+// One turn over a piece, its bytes put behind those of the clean file: how many bytes of the piece were used.
+#[tactic(auto, using(cleaning::proofs::PiecesLaws::end_within))]
+fn turn(car: &mut Car, piece: &[u8], clean: &mut [u8], count: &mut usize) -> usize {
     let mut page = [0u8; 4096];
-    let mut car = first;
-    let mut from = 4;
-    let mut to = 4;
-    let mut count = tester::text(clean, 0, &bytes[0..4]);
-    while to < bytes.len() {
-        to = tester::further(to, cut, bytes.len());
-        let turned = cleaning::turn(car, &bytes[from..to], &mut page);
-        let end = turned.end;
-        count = tester::text(clean, count, &page[0..end]);
-        car = turned.car;
-        from += turned.used;
-    }
-    Cleaned {
-        refusal: cleaning::close(bytes.len() - from),
-        count: count,
-    }
+    let turned = cleaning::turn(*car, piece, &mut page);
+    *car = turned.car;
+    *count = tester::text(clean, *count, &page[0..turned.end]);
+    turned.used
 }
 
-fn clean_file(bytes: &[u8], cut: usize, clean: &mut [u8]) -> Cleaned
+// The clean file's bytes, piece by piece behind the settings word: how many there are, and the refusal of the file's end.
+fn clean_pieces(
+    first: Car,
+    bytes: &[u8],
+    cut: usize,
+    clean: &mut [u8],
+) -> (usize, Result<(), Refusal>)
+    requires { 1 ≤ cut }
+{
+    let (settings, events) = bytes.split_at(bytes.len().min(4));
+    let mut car = first;
+    let mut count = tester::text(clean, 0, settings);
+    let Ok(left) = tester::pieces(events, cut, |piece| {
+        Ok::<usize, Infallible>(turn(&mut car, piece, clean, &mut count))
+    });
+    (count, cleaning::close(left))
+}
+
+fn clean_file(bytes: &[u8], cut: usize, clean: &mut [u8]) -> (usize, Result<(), Refusal>)
     requires { 1 ≤ cut }
 {
     match cleaning::open(bytes) {
-        Fresh::Made(car) => clean_pieces(car, bytes, cut, clean),
-        Fresh::Refused(n) => Cleaned {
-            refusal: n,
-            count: 0,
-        },
+        Ok(car) => clean_pieces(car, bytes, cut, clean),
+        Err(refusal) => (0, Err(refusal)),
     }
 }
 
 #[tactic(auto, unfolding(wire::specs::Wire::words_count))]
-fn clean_lines(out: &mut [u8], at: usize, cleaned: Cleaned, clean: &[u8]) -> usize {
-    let count = cleaned.count;
-    if clean.len() < count {
-        return at;
-    }
-    let mut words = [0; 1028];
-    let n = wire::words_of(&clean[0..count], &mut words);
-    copy_lines(out, at, cleaned.refusal, n, &words[0..n])
+fn clean_lines(out: &mut [u8], at: usize, refusal: u32, clean: &[u8]) -> usize {
+    let mut words = [0; WORDS];
+    let n = wire::words_of(clean, &mut words);
+    copy_lines(out, at, refusal, n, &words[..n])
 }
 
-// A file whose bytes stand in the next words of the input.
-fn clean_words(
-    place: Place,
-    out: &mut [u8],
-    input: &[u32],
-    cut: usize,
-    words: &mut [u32],
-    length: usize,
-) -> Place
-    requires { (1 ≤ cut) × (length ≤ 4112) }
+// The file whose length and bytes are the next of the input: its length.
+fn file(bytes: &mut [u8; BYTES], input: &mut Reader<'_>) -> usize
+    ensures { result ≤ 4112 }
 {
-    tester::fill(words, input, place.next);
-    let mut bytes = [0u8; 4112];
-    wire::bytes_of(words, &mut bytes);
-    let mut clean = [0u8; 4112];
-    let cleaned = clean_file(&bytes[0..length], cut, &mut clean);
-    Place {
-        next: tester::past(input, place.next, words.len()),
-        end: clean_lines(out, place.end, cleaned, &clean),
-    }
+    let length = input.size(BYTES);
+    let mut words = [0; WORDS];
+    let part = &mut words[..length.div_ceil(4)];
+    input.fill(part);
+    wire::bytes_of(part, bytes);
+    length
+}
+
+// A file whose bytes are lent.
+fn clean_bytes(out: &mut [u8], at: usize, bytes: &[u8], cut: usize) -> usize
+    requires { 1 ≤ cut }
+{
+    let mut clean = [0u8; BYTES];
+    let (count, closed) = clean_file(bytes, cut, &mut clean);
+    let Some(file) = clean.get(..count) else {
+        return at;
+    };
+    clean_lines(out, at, number(&closed), file)
 }
 
 // A file; pieces of no byte are no case.
-fn clean_case(place: Place, out: &mut [u8], input: &[u32]) -> Place {
-    let cut = tester::size(input, place.next, 4096);
+fn clean_case(input: &mut Reader<'_>, out: &mut [u8], at: usize) -> usize {
+    let cut = input.size(4096);
     if cut == 0 {
-        return place;
+        return at;
     }
-    let second = tester::past(input, place.next, 1);
-    let length = tester::size(input, second, 4112);
-    let end = (length + 3) / 4;
-    let mut words = [0; 1028];
-    let from = Place {
-        next: tester::past(input, second, 1),
-        end: place.end,
-    };
-    clean_words(from, out, input, cut, &mut words[0..end], length)
+    let mut bytes = [0u8; BYTES];
+    let length = file(&mut bytes, input);
+    clean_bytes(out, at, &bytes[..length], cut)
 }
 
-fn case(kind: u32, place: Place, out: &mut [u8], input: &[u32]) -> Place {
+fn case(kind: u32, input: &mut Reader<'_>, out: &mut [u8], at: usize) -> usize {
     match kind {
-        1 => settings_case(place, out, input),
-        2 => car_case(place, out, input),
-        _ => clean_case(place, out, input),
+        1 => settings_case(input, out, at),
+        2 => car_case(input, out, at),
+        _ => clean_case(input, out, at),
     }
 }
 
-// As many cases as there are words at most: each takes one.
-fn cases(out: &mut [u8], input: &[u32]) -> usize {
-    let mut place = Place { next: 0, end: 0 };
-    for _ in 0..input.len() {
-        let kind = tester::word(input, place.next);
-        if kind == 0 {
-            return place.end;
-        }
-        place.next = tester::past(input, place.next, 1);
-        place = case(kind, place, out, input);
-    }
-    place.end
-}
-
-// The cases of standard input, read into `words` and written from `out`.
-fn run(rt: &HostRuntime, words: &mut [u32], out: &mut [u8]) {
-    let input = tester::read_words(rt, words, b"copies: standard input");
-    if input.failed {
-        return;
-    }
-    let count = input.count;
-    let end = cases(out, &words[0..count]);
-    tester::write(rt, out, end, b"copies: standard output");
+fn cases(words: &[u32], out: &mut [u8]) -> usize {
+    tester::cases(words, out, case)
 }
 
 fn main(rt: HostRuntime) -> io::Result<()> {
     let mut words = [0; 16384];
     let mut out = vec![in rt.alloc(); 0u8; 524288]?;
-    run(&rt, &mut words, out.as_mut_slice());
+    tester::run(
+        &rt,
+        &mut words,
+        out.as_mut_slice(),
+        b"copies: standard input",
+        b"copies: standard output",
+        cases,
+    );
     Ok(())
 }

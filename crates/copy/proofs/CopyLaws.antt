@@ -8,9 +8,7 @@ use Rattle.kit.specs.Answer.{gives}
 use Rattle.kit.specs.Pick.{pick, pick_true}
 use Rattle.car.specs.declared.Car.{Car}
 use Rattle.car.specs.Good.{good_of}
-use Rattle.copy.specs.declared.Copied.{Copied}
-use Rattle.copy.specs.declared.Part.{Part}
-use Rattle.copy.specs.Copy.{too_short, written, unwritten, started_copy, started_buffer, copied_part, uncopied_part, part_of, part_buffer}
+use Rattle.copy.specs.Copy.{Copied, Part, too_short, written, unwritten, started_copy, started_buffer, copied_part, uncopied_part, part_of, part_buffer}
 
 module _ (c : Car) (g : good_of c ≡ true) (ws buffer : List ℕ) where
   pub started_part : (p : Part) → p ≡ part_of c ws buffer → ◌≡◌ {A = Copied} (record { written = p.written; refusal = p.refusal }) (started_copy (gives c) ws buffer)

@@ -1,15 +1,16 @@
 -- A clean copy of a lesson: document 02, §2. `accepted_words` are a list's accepted words from a car, in order.
 -- Assumes nothing.
-use Rattle.std.specs.Prelude.{Bool, List, ◌++◌, ℕ, ltb, length, drop}
+use Rattle.std.specs.Prelude.{Bool, Result, Ok, Err, List, ◌++◌, ℕ, ltb, length, drop}
 use Rattle.kit.specs.Answer.{Answer, gives, refused}
 use Rattle.kit.specs.Pick.{pick}
+use Rattle.event.specs.declared.refusal.Refusal.{Refusal}
+use Rattle.event.specs.Refusal.{refusal_number}
 use Rattle.car.specs.declared.Car.{Car}
 use Rattle.car.specs.Car.{fresh_of}
 use Rattle.car.specs.Good.{good_of}
 use Rattle.car.specs.Lesson.{driven}
 use Rattle.history.specs.History.{accepted_words}
-use Rattle.copy.specs.declared.Copied.{Copied}
-use Rattle.copy.specs.declared.Part.{Part}
+use Rattle.copy.specs.declared.Part as code
 
 -- "A buffer shorter than the accepted words"
 unfoldable pub too_short : Car → List ℕ → List ℕ → Bool
@@ -19,7 +20,16 @@ too_short c ws buffer = ltb (length buffer) (length (accepted_words c ws))
 unfoldable pub copied_into : Car → List ℕ → List ℕ → List ℕ
 copied_into c ws buffer = accepted_words c ws ++ drop (length (accepted_words c ws)) buffer
 
--- ---- from settings: "the number written, 0 when refused, is part of the result"
+-- ---- from settings: "the number written, 0 when refused, is part of the result"; the refusal is 0, 17 or 19
+pub record Copied : Type 0 where
+  pub written : ℕ
+  pub refusal : ℕ
+
+-- what a result says
+abbrev pub copy_answer : Result ℕ Refusal → Copied
+copy_answer (Ok n) = record { written = n; refusal = 0 }
+copy_answer (Err r) = record { written = 0; refusal = refusal_number r }
+
 unfoldable pub written : Car → List ℕ → Copied
 written c ws = record { written = length (accepted_words c ws); refusal = 0 }
 
@@ -44,6 +54,16 @@ unfoldable pub copy_buffer : ℕ → ℕ → List ℕ → List ℕ → List ℕ
 copy_buffer mode signs ws buffer = started_buffer (fresh_of mode signs) ws buffer
 
 -- ---- from a car, for a lesson that comes part by part: the same with the car behind it. 18 for a car that is not good, then 19
+pub record Part : Type 0 where
+  pub car : Car
+  pub written : ℕ
+  pub refusal : ℕ
+
+-- what a result says of the car handed in: refused, it is kept
+abbrev pub part_answer : Car → Result code.Part Refusal → Part
+part_answer c (Ok p) = record { car = p.car; written = p.written; refusal = 0 }
+part_answer c (Err r) = record { car = c; written = 0; refusal = refusal_number r }
+
 unfoldable pub copied_part : Car → List ℕ → Part
 copied_part c ws = record { car = driven c ws; written = length (accepted_words c ws); refusal = 0 }
 

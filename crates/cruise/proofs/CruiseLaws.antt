@@ -1,20 +1,24 @@
 -- Laws of the library's definitions, by equations, as the code's exits have them.
 -- Assumes nothing.
-use Rattle.std.specs.Prelude.{Bool, List, [], ◌∷◌, ℕ, ◌≤◌, eqb, get_or}
+use Rattle.std.specs.Prelude.{Bool, List, [], ◌∷◌, ℕ, ◌≤◌, eqb, get_or, Option, Some, None, Result, Ok, Err, unwrap_or}
+use Rattle.std.specs.Result.{result_err}
 use Rattle.std.proofs.Math.Bool.{true, false}
-use Rattle.std.proofs.Math.Option.{some, none}
 use Rattle.std.proofs.Math.Path.{◌≡◌, refl}
-use Rattle.std.proofs.Common.{sym, ◌∙◌, arith}
+use Rattle.std.proofs.Common.{sym, ap, ◌∙◌, arith, ne_eqb}
 use Rattle.kit.specs.Answer.{Answer, gives, refused, number_of}
-use Rattle.kit.specs.Pick.{pick, pick_true, pick_case}
-use Rattle.answer.specs.declared.Answer as answer
+use Rattle.kit.specs.Pick.{pick, pick_true, pick_false, pick_case}
+use Rattle.event.specs.declared.refusal.Refusal.{Refusal}
+use Rattle.event.specs.Refusal.{refusal_number, answer, number}
+use Rattle.event.proofs.RefusalLaws.{number_pos}
+use Rattle.passing.specs.declared.Marked as marked
+use Rattle.passing.specs.Passing.{Marked, event_number, mark_answer, mark_of}
+use Rattle.answer.specs.declared.Answer as answerdata
 use Rattle.answer.specs.AnswerWord as answerword
 use Rattle.car.specs.declared.Car.{Car}
-use Rattle.car.specs.declared.figures.Figures.{Figures}
+use Rattle.car.specs.Figures.{Figures, figures_of, shown, no_figures}
 use Rattle.car.proofs.AccelerationLaws.{acceleration_size}
 use Rattle.car.proofs.AnswerLaws.{step_shows}
 use Rattle.car.specs.Drive.{step_of}
-use Rattle.car.specs.Figures.{figures_of, shown, no_figures}
 use Rattle.car.specs.Good.{good_of}
 use Rattle.car.proofs.GoodLaws.{good}
 use Rattle.car.specs.Lesson.{answer_of, driven, each_of, each_after, answers_after, taught_of, lesson_of}
@@ -27,7 +31,7 @@ use Rattle.sighting.specs.declared.Sighting.{Sighting}
 use Rattle.scene.specs.See.{see_of}
 use Rattle.scene.specs.SeeShape.{kept_of}
 use Rattle.scene.proofs.SeeLaws.{see_word, see_none, see_refused}
-use Rattle.cruise.specs.Cruise.{Left, drive_left, figures_read, handed_word, see_left}
+use Rattle.cruise.specs.Cruise.{Left, drive_left, figures_read, mark_found, mark_left, handed_word, see_left}
 
 -- ---- one event word is a lesson of one word, whose answer word holds the refusal in bits 0-4
 module _ (c : Car) (w : ℕ) (g : good_of c ≡ true) where
@@ -53,7 +57,7 @@ module _ (words : List ℕ) (w : ℕ) where
       go (gives c) h z = absurd (z (rw (lesson_one c w (read_packed words c h).1)))
       go (refused n) h z = refl
 
-  pub drive_answered : (l : LessonLeft) (a : answer.Answer) → l ≡ one (read_of words) → l.refusal ≡ 0 → a ≡ answerword.read_of (get_or l.answers 0 0)
+  pub drive_answered : (l : LessonLeft) (a : answerdata.Answer) → l ≡ one (read_of words) → l.refusal ≡ 0 → a ≡ answerword.read_of (get_or l.answers 0 0)
       → ◌≡◌ {A = Left} (record { refusal = a.refusal; words = l.words }) (drive_left words (read_of words) w)
   unfolding lesson_left drive_left taught_of driven answerword.read_of
   drive_answered l a e z ea = rw (ea, e) (go (read_of words) refl (rw e at z))
@@ -78,14 +82,38 @@ unfolding figures_read
 dial_small (gives c) = figures_small c
 dial_small (refused n) = omega arith
 
+-- ---- results in the definitions' terms
+pub number_answer : {A : Type 0} (r : Result A Refusal) → number r ≡ number_of (answer r)
+unfolding number_of
+number_answer (Ok a) = refl
+number_answer (Err r) = refl
+
+-- a mark's result of the record's car
+pub marked_found : (mark : ℕ) (c : Car) (ws : List ℕ) (r : Result marked.Marked Refusal) → mark_answer c r ≡ mark_of mark c ws → mark_found r ≡ mark_left mark (gives c) ws
+unfolding mark_left event_number
+marked_found mark c ws (Ok m) e = ap (λ (x : Marked). record { refusal = x.refusal; event = event_number x.passed; seconds = x.seconds }) e
+marked_found mark c ws (Err r) e = ap (λ (x : Marked). record { refusal = x.refusal; event = event_number x.passed; seconds = x.seconds }) e
+
+-- the number of an event that is there, else 0
+pub event_or_0 : (p : Option ℕ) → unwrap_or p 0 ≡ event_number p
+unfolding event_number
+event_or_0 (Some n) = refl
+event_or_0 None = refl
+
+-- a record's own refusal comes first
+pub refusal_first : (r : Result Car Refusal) (n : Refusal) (a : Answer Car) → answer r ≡ a → refusal_number (unwrap_or (result_err r) n) ≡ pick (eqb (number_of a) 0) (refusal_number n) (number_of a)
+unfolding number_of
+refusal_first (Ok c) n a e = rw (← e) (sym (pick_true _ _ _ refl))
+refusal_first (Err r) n a e = rw (← e) (sym (pick_false _ _ _ (ne_eqb _ _ (number_pos r _ refl))))
+
 -- ---- a sighting is driven by its event's word, and with none the record is only tested
 no_answer : {P : Type 0} {A : Type 0} (a : A) (n : ℕ) → gives a ≡ refused n → P
 no_answer a n e = let z : ◌≡◌ {A = ℕ} 0 1 = cc e in absurd (omega arith)
 
 module _ (words : List ℕ) where
-  pub see_driven : (a : Answer Sighting) (w : ℕ) → handed_word a ≡ gives (some w) → drive_left words (read_of words) w ≡ see_left words (read_of words) a
+  pub see_driven : (a : Answer Sighting) (w : ℕ) → handed_word a ≡ gives (Some w) → drive_left words (read_of words) w ≡ see_left words (read_of words) a
   unfolding handed_word drive_left see_left
-  see_driven (refused n) w h = no_answer (some w) n (sym h)
+  see_driven (refused n) w h = no_answer (Some w) n (sym h)
   see_driven (gives s) w h = go (read_of words)
     where
       go : (r : Answer Car) → drive_left words r w ≡ see_left words r (gives s)
@@ -100,10 +128,10 @@ module _ (words : List ℕ) where
       let p = read_packed words c h in
       rw (e ∙ pick_true _ _ _ p.1, p.0) refl
 
-  pub see_fault : (a : Answer Sighting) → handed_word a ≡ gives none
+  pub see_fault : (a : Answer Sighting) → handed_word a ≡ gives None
       → ◌≡◌ {A = Left} (record { refusal = number_of (read_of words); words = words }) (see_left words (read_of words) a)
   unfolding handed_word see_left number_of
-  see_fault (refused n) h = no_answer none n (sym h)
+  see_fault (refused n) h = no_answer None n (sym h)
   see_fault (gives s) h = go (read_of words) refl
     where
       go : (r : Answer Car) → read_of words ≡ r → ◌≡◌ {A = Left} (record { refusal = number_of r; words = words }) (see_left words r (gives s))

@@ -1,19 +1,20 @@
 -- What each function of the library gives and leaves. A car crosses as the twelve words of its record: `gives c` where the words handed
 -- over are an accepted record, of the car c, and `refused n` where they are not (18).
 -- Assumes nothing.
-use Rattle.std.specs.Prelude.{false, List, ℕ, eqb, Float, ℤ}
-use Rattle.std.proofs.Math.Option.{Option, some, none}
+use Rattle.std.specs.Prelude.{false, Result, Ok, Err, List, ℕ, eqb, Float, ℤ, Option, Some, None}
 use Rattle.kit.specs.Answer.{Answer, gives, refused, number_of}
 use Rattle.kit.specs.Pick.{pick}
 use Rattle.event.specs.Words.{bit_of}
 use Rattle.motion.specs.Acceleration.{signed}
 use Rattle.car.specs.declared.Car.{Car}
-use Rattle.car.specs.declared.figures.Figures.{Figures}
+use Rattle.car.specs.Figures.{Figures, figures_of}
 use Rattle.car.specs.Drive.{drive_of}
-use Rattle.car.specs.Figures.{figures_of}
 use Rattle.record.specs.Layout.{packed}
 use Rattle.record.specs.Record.{saved_refusal, saved_buffer}
 use Rattle.alike.specs.Alike.{alike_of}
+use Rattle.event.specs.declared.refusal.Refusal.{Refusal}
+use Rattle.event.specs.Refusal.{refusal_number}
+use Rattle.passing.specs.declared.Marked as marked
 use Rattle.passing.specs.Passing.{event_number, mark_of}
 use Rattle.sighting.specs.declared.Sighting.{Sighting}
 use Rattle.sighting.specs.declared.Sighting.TheVariants.{Vehicle, Free, Fault}
@@ -88,6 +89,11 @@ pub record MarkLeft : Type 0 where
   pub event : ℕ
   pub seconds : ℕ
 
+-- what a result says
+abbrev pub mark_found : Result marked.Marked Refusal → MarkLeft
+mark_found (Ok m) = record { refusal = 0; event = event_number m.passed; seconds = m.seconds }
+mark_found (Err r) = record { refusal = refusal_number r; event = 0; seconds = 0 }
+
 unfoldable pub mark_left : ℕ → Answer Car → List ℕ → MarkLeft
 mark_left mark (gives c) words =
     record {
@@ -115,8 +121,8 @@ pub record SightingLeft : Type 0 where
   pub word : ℕ
 
 unfoldable pub sighting_left : Answer (Option ℕ) → SightingLeft
-sighting_left (gives (some w)) = record { refusal = 0; word = w }
-sighting_left (gives none) = record { refusal = 0; word = 0 }
+sighting_left (gives (Some w)) = record { refusal = 0; word = w }
+sighting_left (gives None) = record { refusal = 0; word = 0 }
 sighting_left (refused n) = record { refusal = n; word = 0 }
 
 -- cruise_see: 18, then 1, then 22 and 23, then 4 and 14

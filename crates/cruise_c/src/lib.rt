@@ -6,8 +6,7 @@ ghost use Rattle.kit.specs.Answer.{number_of};
 ghost use Rattle.settings.specs.SettingsWord.{start_of};
 ghost use Rattle.record.specs.Record.{read_of};
 ghost use Rattle.record.specs.RecordLesson.{LessonLeft, lesson_left};
-ghost use Rattle.copy.specs.declared.Copied.{Copied};
-ghost use Rattle.copy.specs.Copy.{started_copy, started_buffer};
+ghost use Rattle.copy.specs.Copy.{Copied, started_copy, started_buffer};
 ghost use Rattle.cruise.specs.Cruise.{Left, fresh_left, drive_left, figures_read, Dials, dials_of, alike_refusal, alike_answer, MarkLeft, mark_left, sighting_of, handed_word, SightingLeft, sighting_left, see_left};
 
 #[unsafe(no_mangle)]

@@ -5,29 +5,18 @@
 ghost use Rattle.std.specs.Prelude.{◌≡◌, ◌+◌, ◌-◌, min, max};
 ghost use Rattle.desired.specs.Desired.{up5, up7, down5, down7, stepped, long_held, held, manual_after, sign_desired};
 
-use number::{less, most};
-
 // The sum, at most top.
 fn raised(top: u32, a: u32, b: u64) -> u32
     ensures { result ≡ min top (a + b) }
 {
-    if a >= top {
-        return top;
-    }
-    if b >= (top - a) as u64 {
-        return top;
-    }
-    a + b as u32
+    u64::from(a).saturating_add(b).min(u64::from(top)) as u32
 }
 
 // The difference, at least 10.
 fn lowered(a: u32, b: u64) -> u32
     ensures { result ≡ max 10 (a - b) }
 {
-    if b >= a as u64 {
-        return 10;
-    }
-    most(10, a - b as u32)
+    u64::from(a).saturating_sub(b).max(10) as u32
 }
 
 #[tactic(auto, using(kit::specs::Pick::picks), unfolding(crate::specs::Desired::up5))]
@@ -55,7 +44,7 @@ fn down5(d: u32) -> u32
 fn down7(d: u32) -> u32
     ensures { result ≡ down7 d }
 {
-    most(10, less(d, 1) / 100 * 100)
+    (d.saturating_sub(1) / 100 * 100).max(10)
 }
 
 // D after a move to the position with cruise on.
@@ -77,10 +66,10 @@ pub fn long_held(top: u32, position: u32, base: u32, h: u32) -> u32
     ensures { result ≡ long_held top position base h }
 {
     match position {
-        1 => raised(top, base, less(h, 1) as u64 * 10),
-        2 => raised(top, base / 100 * 100, (h / 2) as u64 * 100),
-        3 => lowered(base, less(h, 1) as u64 * 10),
-        _ => lowered(base / 100 * 100, (h / 2) as u64 * 100),
+        1 => raised(top, base, u64::from(h.saturating_sub(1)) * 10),
+        2 => raised(top, base / 100 * 100, u64::from(h / 2) * 100),
+        3 => lowered(base, u64::from(h.saturating_sub(1)) * 10),
+        _ => lowered(base / 100 * 100, u64::from(h / 2) * 100),
     }
 }
 

@@ -8,25 +8,6 @@ use Rattle.event.specs.declared.Input.{Input}
 use Rattle.event.specs.declared.Input.TheVariants.{Key, UpDown, ForeBack, Brake, Gas, Button, Gap, Sign, Radar}
 use Rattle.event.specs.declared.Event.{Event}
 use Rattle.event.specs.declared.Event.TheVariants as event
-use Rattle.event.specs.declared.InputReading.{InputReading}
-use Rattle.event.specs.declared.InputReading.TheVariants as input
-use Rattle.event.specs.declared.Reading.{Reading}
-use Rattle.event.specs.declared.Reading.TheVariants as reading
-use Rattle.event.specs.declared.Writing.{Writing}
-use Rattle.event.specs.declared.Writing.TheVariants as writing
-
--- what a reading and a writing say
-abbrev pub input_answer : InputReading → Answer Input
-input_answer (input.Read i) = gives i
-input_answer (input.Refused n) = refused n
-
-abbrev pub reading_answer : Reading → Answer Event
-reading_answer (reading.Read e) = gives e
-reading_answer (reading.Refused n) = refused n
-
-abbrev pub writing_answer : Writing → Answer ℕ
-writing_answer (writing.Word w) = gives w
-writing_answer (writing.Refused n) = refused n
 
 -- "The top four bits choose among ten kinds": a word's kind, and its body, the 28 bits below
 abbrev pub kind_of : ℕ → ℕ

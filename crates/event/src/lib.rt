@@ -1,12 +1,17 @@
 // Event words (document 01, "Event words"): a word is read into an event, and an event is written as its word.
 #![tactic(auto, using(kit::specs::Pick::picks))]
 
-ghost use Rattle.std.specs.Prelude.{◌≡◌, true, eqb, ◌≤◌};
-ghost use Rattle.event.specs.Words.{kind_of, input_kind, body_of, input_answer, reading_answer, writing_answer, permitted_gap, input_range, unnamed_of, judged, key_word, radar_word, inputs_of, input_of, ready_of, tick_word, read_of, bit_of, input_word, input_writing, write_of};
+ghost use Rattle.std.specs.Prelude.{◌≡◌, true, not, eqb, ◌≤◌};
+ghost use Rattle.kit.specs.Answer.{gives, refused};
+ghost use Rattle.kit.specs.Pick.{pick};
+ghost use Rattle.event.specs.Refusal.{answer, number};
+ghost use Rattle.event.specs.Words.{kind_of, input_kind, body_of, permitted_gap, input_range, unnamed_of, judged, key_word, radar_word, inputs_of, input_of, ready_of, tick_word, read_of, bit_of, input_word, input_writing, write_of};
 
 use number::bound;
 
 pub mod refusal;
+
+pub use refusal::Refusal;
 
 // What the pupil, the signs and the radar do: nine of the ten kinds of event, with the values that a word of the kind holds.
 #[derive(Clone, Copy)]
@@ -29,27 +34,6 @@ pub enum Event {
     Tick { ready: bool },
 }
 
-// What reading a word that is no tick gives: the input, or the number of the first check that holds.
-#[derive(Clone, Copy)]
-pub enum InputReading {
-    Read(Input),
-    Refused(u32),
-}
-
-// What reading a word gives: the event, or the number of the first check that holds.
-#[derive(Clone, Copy)]
-pub enum Reading {
-    Read(Event),
-    Refused(u32),
-}
-
-// What writing an event gives: its word, or the refusal.
-#[derive(Clone, Copy)]
-pub enum Writing {
-    Word(u32),
-    Refused(u32),
-}
-
 // A word's kind stands in its top four bits, above the 28 bits of its body.
 const KIND: u32 = 0x1000_0000;
 
@@ -60,15 +44,16 @@ const TICK: u32 = 10;
 const TICK_BODIES: u32 = 2;
 
 #[tactic(auto, using(kit::specs::Pick::picks), unfolding(crate::specs::Words::read_of, crate::specs::Words::input_event))]
-pub fn read(word: u32) -> Reading
-    ensures { reading_answer result ≡ read_of word }
-{
-    if is_tick(word) {
-        return read_tick(word);
-    }
-    match read_input(word) {
-        InputReading::Read(input) => Reading::Read(Event::Input(input)),
-        InputReading::Refused(n) => Reading::Refused(n),
+impl TryFrom<u32> for Event {
+    type Error = Refusal;
+
+    ghost try_from_gives = { λ word r. answer r ≡ read_of word };
+
+    fn try_from(word: u32) -> Result<Event, Refusal> {
+        if is_tick(word) {
+            return read_tick(word);
+        }
+        Ok(Event::Input(read_input(word)?))
     }
 }
 
@@ -78,9 +63,9 @@ pub fn is_tick(word: u32) -> bool
     word / KIND == TICK
 }
 
-// Check 2 of a tick's word, or 0.
-pub fn tick_refusal(word: u32) -> u32
-    ensures { result ≡ unnamed_of 2 (body_of word) }
+// Check 2 of a tick's word.
+pub fn check_tick(word: u32) -> Result<(), Refusal>
+    ensures { number result ≡ unnamed_of 2 (body_of word) }
 {
     unnamed(TICK_BODIES, word % KIND)
 }
@@ -92,30 +77,27 @@ pub fn tick_ready(word: u32) -> bool
 }
 
 #[tactic(auto, using(kit::specs::Pick::picks), unfolding(crate::specs::Words::tick_word, crate::specs::Words::unnamed_of))]
-fn read_tick(word: u32) -> Reading
-    ensures { reading_answer result ≡ tick_word (body_of word) }
+fn read_tick(word: u32) -> Result<Event, Refusal>
+    ensures { answer result ≡ tick_word (body_of word) }
 {
-    let refusal = tick_refusal(word);
-    if refusal != 0 {
-        return Reading::Refused(refusal);
-    }
-    Reading::Read(Event::Tick {
+    check_tick(word)?;
+    Ok(Event::Tick {
         ready: tick_ready(word),
     })
 }
 
 // The input of a word, or its refusal, for a word that is no tick.
 #[tactic(auto, using(kit::specs::Pick::picks), unfolding(crate::specs::Words::input_of))]
-pub fn read_input(word: u32) -> InputReading
-    ensures { input_answer result ≡ input_of word }
+pub fn read_input(word: u32) -> Result<Input, Refusal>
+    ensures { answer result ≡ input_of word }
 {
     read_kind(word / KIND, word % KIND)
 }
 
 // The kinds beside the tick.
 #[tactic(auto, using(kit::specs::Pick::picks), unfolding(crate::specs::Words::inputs_of, crate::specs::Words::key_on_of))]
-fn read_kind(kind: u32, body: u32) -> InputReading
-    ensures { input_answer result ≡ inputs_of kind body }
+fn read_kind(kind: u32, body: u32) -> Result<Input, Refusal>
+    ensures { answer result ≡ inputs_of kind body }
 {
     match kind {
         1 => key_word(body),
@@ -127,7 +109,7 @@ fn read_kind(kind: u32, body: u32) -> InputReading
         7 => judge(32, body, Input::Gap(body)),
         8 => judge(2048, body, Input::Sign(body)),
         9 => radar_word(body),
-        _ => InputReading::Refused(refusal::NO_SUCH_KIND),
+        _ => Err(Refusal::NoSuchKind),
     }
 }
 
@@ -153,8 +135,8 @@ pub fn kind(input: Input) -> u32
 }
 
 #[tactic(auto, using(kit::specs::Pick::picks), unfolding(crate::specs::Words::key_word))]
-fn key_word(body: u32) -> InputReading
-    ensures { input_answer result ≡ key_word body }
+fn key_word(body: u32) -> Result<Input, Refusal>
+    ensures { answer result ≡ key_word body }
 {
     let input = Input::Key {
         position: body % 4,
@@ -164,8 +146,8 @@ fn key_word(body: u32) -> InputReading
 }
 
 #[tactic(auto, using(kit::specs::Pick::picks), unfolding(crate::specs::Words::radar_word))]
-fn radar_word(body: u32) -> InputReading
-    ensures { input_answer result ≡ radar_word body }
+fn radar_word(body: u32) -> Result<Input, Refusal>
+    ensures { answer result ≡ radar_word body }
 {
     let input = Input::Radar {
         range: body % 256,
@@ -174,30 +156,34 @@ fn radar_word(body: u32) -> InputReading
     judge(2097152, body, input)
 }
 
-// Check 2: 2 for a body with a bit at or above the named ones, else 0.
+// Check 2: a body with a bit at or above the named ones.
 #[tactic(auto, using(kit::specs::Pick::picks), unfolding(crate::specs::Words::unnamed_of))]
-fn unnamed(named: u32, body: u32) -> u32
-    ensures { result ≡ unnamed_of named body }
+fn unnamed(named: u32, body: u32) -> Result<(), Refusal>
+    ensures { number result ≡ unnamed_of named body }
 {
     if body >= named {
-        return refusal::UNNAMED_BIT;
+        return Err(Refusal::UnnamedBit);
     }
-    0
+    Ok(())
 }
 
 // Checks 2 and 3: an unnamed bit, and a value outside its range.
 #[tactic(auto, using(kit::specs::Pick::picks), unfolding(crate::specs::Words::judged, crate::specs::Words::unnamed_of))]
-fn judge(named: u32, body: u32, input: Input) -> InputReading
-    ensures { input_answer result ≡ judged named body input }
+fn judge(named: u32, body: u32, input: Input) -> Result<Input, Refusal>
+    ensures { answer result ≡ judged named body input }
 {
-    let refusal = unnamed(named, body);
-    if refusal != 0 {
-        return InputReading::Refused(refusal);
-    }
+    unnamed(named, body)?;
+    ranged(input)
+}
+
+// Check 3: a value outside its range.
+fn ranged(input: Input) -> Result<Input, Refusal>
+    ensures { answer result ≡ pick (not (input_range input)) (refused 3) (gives input) }
+{
     if !input_in_range(input) {
-        return InputReading::Refused(refusal::OUT_OF_RANGE);
+        return Err(Refusal::OutOfRange);
     }
-    InputReading::Read(input)
+    Ok(input)
 }
 
 #[tactic(auto, using(kit::specs::Pick::picks), unfolding(crate::specs::Words::input_range))]
@@ -226,22 +212,24 @@ pub fn permitted_gap(tenths: u32) -> bool
 }
 
 #[tactic(auto, using(kit::specs::Pick::picks), unfolding(crate::specs::Words::write_of, crate::specs::Words::in_range, crate::specs::Words::word_of, kit::specs::Pick::pick))]
-pub fn write(event: Event) -> Writing
-    ensures { writing_answer result ≡ write_of event }
-{
-    match event {
-        Event::Input(input) => write_input(input),
-        Event::Tick { ready } => Writing::Word(TICK * KIND + bit(ready)),
+impl TryFrom<Event> for u32 {
+    type Error = Refusal;
+
+    ghost try_from_gives = { λ event r. answer r ≡ write_of event };
+
+    fn try_from(event: Event) -> Result<u32, Refusal> {
+        match event {
+            Event::Input(input) => write_input(input),
+            Event::Tick { ready } => Ok(TICK * KIND + bit(ready)),
+        }
     }
 }
 
-fn write_input(input: Input) -> Writing
-    ensures { writing_answer result ≡ input_writing input }
+fn write_input(input: Input) -> Result<u32, Refusal>
+    ensures { answer result ≡ input_writing input }
 {
-    if !input_in_range(input) {
-        return Writing::Refused(refusal::OUT_OF_RANGE);
-    }
-    Writing::Word(input_word(input))
+    ranged(input)?;
+    Ok(input_word(input))
 }
 
 #[tactic(auto, using(kit::specs::Pick::picks), unfolding(crate::specs::Words::input_word, crate::specs::Words::input_range, crate::specs::Words::permitted_gap))]
@@ -267,5 +255,5 @@ fn input_word(input: Input) -> u32
 pub fn bit(flag: bool) -> u32
     ensures { (result ≡ bit_of flag) × (result ≤ 1) }
 {
-    if flag { 1 } else { 0 }
+    u32::from(flag)
 }

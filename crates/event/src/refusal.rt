@@ -1,53 +1,54 @@
-// The refusals of documents 01 and 02, by number. 0 is none.
+// The refusals of documents 01 and 02, in the order of their numbers from 1 on.
+ghost use Rattle.std.specs.Prelude.{◌≡◌};
+ghost use Rattle.event.specs.Refusal.{refusal_number, number};
 
-// Whoever wrote the file.
-pub const NO_SUCH_KIND: u32 = 1;
+#[derive(Clone, Copy, Debug, PartialEq, Eq)]
+pub enum Refusal {
+    // Whoever wrote the file.
+    NoSuchKind = 1,
+    UnnamedBit = 2,
+    OutOfRange = 3,
+    // The pupil.
+    KeyNotOn = 4,
+    AlreadyHeld = 5,
+    KeyWhileMoving = 6,
+    PositionSkipped = 7,
+    OtherLeverOut = 8,
+    OtherPedalDown = 9,
+    ButtonIn = 10,
+    ButtonWhileBackward = 11,
+    ButtonWhileGas = 12,
+    AboveLimit = 13,
+    // The radar.
+    RadarNotReady = 14,
+    ReadyBit = 15,
+    // The clock.
+    ClockAtEnd = 16,
+    // Whoever calls.
+    Settings = 17,
+    NotAccepted = 18,
+    ShortAnswers = 19,
+    ShortRecord = 20,
+    CutWord = 21,
+    // The scene engine.
+    BadFloat = 22,
+    TooFast = 23,
+}
 
-pub const UNNAMED_BIT: u32 = 2;
+impl From<Refusal> for u32 {
+    ghost from_gives = { λ r n. n ≡ refusal_number r };
 
-pub const OUT_OF_RANGE: u32 = 3;
+    fn from(refusal: Refusal) -> u32 {
+        refusal as u32
+    }
+}
 
-// The pupil.
-pub const KEY_NOT_ON: u32 = 4;
-
-pub const ALREADY_HELD: u32 = 5;
-
-pub const KEY_WHILE_MOVING: u32 = 6;
-
-pub const POSITION_SKIPPED: u32 = 7;
-
-pub const OTHER_LEVER_OUT: u32 = 8;
-
-pub const OTHER_PEDAL_DOWN: u32 = 9;
-
-pub const BUTTON_IN: u32 = 10;
-
-pub const BUTTON_WHILE_BACKWARD: u32 = 11;
-
-pub const BUTTON_WHILE_GAS: u32 = 12;
-
-pub const ABOVE_LIMIT: u32 = 13;
-
-// The radar.
-pub const RADAR_NOT_READY: u32 = 14;
-
-pub const READY_BIT: u32 = 15;
-
-// The clock.
-pub const CLOCK_AT_END: u32 = 16;
-
-// Whoever calls.
-pub const SETTINGS: u32 = 17;
-
-pub const NOT_ACCEPTED: u32 = 18;
-
-pub const SHORT_ANSWERS: u32 = 19;
-
-pub const SHORT_RECORD: u32 = 20;
-
-pub const CUT_WORD: u32 = 21;
-
-// The scene engine.
-pub const BAD_FLOAT: u32 = 22;
-
-pub const TOO_FAST: u32 = 23;
+// The number of what was refused, 0 for none.
+pub fn number<T>(outcome: &Result<T, Refusal>) -> u32
+    ensures { result ≡ number outcome.now }
+{
+    match outcome {
+        Ok(_) => 0,
+        Err(refusal) => u32::from(*refusal),
+    }
+}

@@ -2,35 +2,20 @@
 // written as the same word again (or if it was refused), else 0.
 #![tactic(auto)]
 
-use event::{Event, Reading, Writing};
+use event::{Event, Refusal};
 
-fn refusal(word: u32) -> u32 {
-    match event::read(word) {
-        Reading::Read(_) => 0,
-        Reading::Refused(n) => n,
-    }
-}
-
-fn written_as(event: Event, word: u32) -> u32 {
-    match event::write(event) {
-        Writing::Word(w) => if w == word { 1 } else { 0 },
-        Writing::Refused(_) => 0,
-    }
-}
-
-fn same(word: u32) -> u32 {
-    match event::read(word) {
-        Reading::Read(event) => written_as(event, word),
-        Reading::Refused(_) => 1,
-    }
+fn same(word: u32, event: Event) -> bool {
+    u32::try_from(event) == Ok(word)
 }
 
 fn line(out: &mut [u8], at: usize, word: u32) -> usize {
-    let end = tester::number(out, at, refusal(word));
-    tester::last(out, end, same(word))
+    let read: Result<Event, Refusal> = Event::try_from(word);
+    let end = tester::number(out, at, event::refusal::number(&read));
+    let kept = read.map_or(true, |event| same(word, event));
+    tester::last(out, end, event::bit(kept))
 }
 
-fn lines(out: &mut [u8], words: &[u32]) -> usize {
+fn lines(words: &[u32], out: &mut [u8]) -> usize {
     let mut end = 0;
     for word in words {
         end = line(out, end, *word);
@@ -40,12 +25,13 @@ fn lines(out: &mut [u8], words: &[u32]) -> usize {
 
 fn main(rt: HostRuntime) {
     let mut words = [0; 16384];
-    let input = tester::read_words(&rt, &mut words, b"event_words: standard input");
-    if input.failed {
-        return;
-    }
     let mut out = [0; 131072];
-    let count = input.count;
-    let end = lines(&mut out, &words[0..count]);
-    tester::write(&rt, &out, end, b"event_words: standard output");
+    tester::run(
+        &rt,
+        &mut words,
+        &mut out,
+        b"event_words: standard input",
+        b"event_words: standard output",
+        lines,
+    );
 }

@@ -5,12 +5,11 @@ use Rattle.std.proofs.Common.{append_assoc, add-zero, arith, lt-ltb, le-ltb}
 use Rattle.kit.specs.Pick.{pick}
 use Rattle.motion.specs.Acceleration.{acceleration_code}
 use Rattle.car.specs.declared.Car.{Car}
-use Rattle.car.specs.declared.drive.Driven.{Driven}
+use Rattle.car.specs.Drive.{Driven, step_of}
 use Rattle.car.specs.Acceleration.{acceleration_of}
 use Rattle.car.proofs.AccelerationLaws.{acceleration_size, acceleration_signed}
 use Rattle.car.specs.Figures.{shown}
 use Rattle.answer.proofs.AnswerWordLaws.{written_read}
-use Rattle.car.specs.Drive.{step_of}
 use Rattle.car.specs.Good.{good_of}
 use Rattle.car.proofs.GoodLaws.{good_ranges}
 use Rattle.car.proofs.StepLaws.{step_good}

@@ -1,4 +1,3 @@
 pub mod ExerciseLaws
-pub mod Keeping
 pub mod PiecesLaws
 pub mod Turning

@@ -5,10 +5,9 @@ use Rattle.kit.specs.Answer.{Answer, gives, refused}
 use Rattle.kit.specs.Pick.{pick}
 use Rattle.event.specs.Words.{bit_of}
 use Rattle.motion.specs.declared.Acceleration.{Acceleration}
-use Rattle.car.specs.declared.figures.Figures.{Figures}
+use Rattle.car.specs.Figures.{Figures, shown}
 use Rattle.car.specs.declared.Car.{Car}
 use Rattle.car.specs.Drive.{step_of}
-use Rattle.car.specs.Figures.{shown}
 use Rattle.settings.specs.SettingsWord.{start_of}
 use Rattle.wire.specs.Wire.{word_at, words_of}
 use Rattle.listing.specs.Listing.{field_of, warnings_of, ascii, refused_text}

@@ -3,16 +3,14 @@
 // are it.
 #![tactic(auto, using(kit::specs::Pick::picks))]
 
-ghost use Rattle.std.specs.Prelude.{true, ◌≡◌, ◌+◌, ◌≤◌, ◌++◌, length, drop};
-ghost use Rattle.car.specs.Good.{good_of};
+ghost use Rattle.std.specs.Prelude.{◌≡◌, ◌+◌, ◌≤◌, ◌++◌, length, drop};
 ghost use Rattle.kit.specs.Placed.{placed};
-ghost use Rattle.listing.specs.Listing.{refused_text};
 ghost use Rattle.exercise.specs.declared.Stage.TheVariants.{Awaited};
 ghost use Rattle.exercise.specs.Exercise.{head_text};
-ghost use Rattle.exercise.specs.Pieces.{idle, driven_turn, words_turn, events_turn, headed, turn_of, cut_text, turn_in, close_in, answered_at};
+ghost use Rattle.exercise.specs.Pieces.{idle, words_turn, events_turn, headed, turn_of, turn_in, close_in, answered_at};
 
-use car::{Car, Fresh};
-use event::refusal;
+use car::Car;
+use event::Refusal;
 
 // A lesson under way: the car, and the number of its next event.
 #[derive(Clone, Copy)]
@@ -38,80 +36,59 @@ pub struct Turned {
 }
 
 // A turn drives at most so many words, and needs so many bytes for its text: 64 for each, and for the head line.
+// Room is tested by a slice's length: of an array lent by `first_chunk_mut` no call says that it keeps its length, so that every contract would.
 const WORDS: usize = 1024;
 
 const ROOM: usize = 65600;
 
 #[tactic(auto, using(kit::specs::Pick::picks), unfolding(crate::specs::Pieces::answered_at, crate::specs::Pieces::idle))]
-fn nothing_done(stage: Stage, at: usize) -> Turned
-    ensures { result ≡ answered_at at (idle stage) }
+fn nothing_done(stage: Stage) -> Turned
+    ensures { result ≡ answered_at 0 (idle stage) }
 {
     Turned {
         stage: stage,
         used: 0,
-        end: at,
+        end: 0,
     }
 }
 
-// The words driven, and a line for each.
-fn drive(place: Place, words: &[u32], out: &mut [u8], at: usize) -> Turned
-    requires { (good_of place.car ≡ true) × (place.number + length words.now ≤ 18446744073709551615) × (length words.now ≤ 1024) × (at + 65536 ≤ length out.old) }
-    ensures { (result ≡ answered_at at (driven_turn place words.now)) × (out.new ≡ placed out.old at (driven_turn place words.now).text) }
+// The words driven, and a line for each. Nothing where the numbers would pass 2^64 - 1 or the car is not good.
+fn drive_words(place: Place, words: &[u32], out: &mut [u8]) -> Turned
+    requires { (length words.now ≤ 1024) × (65536 ≤ length out.old) }
+    ensures { (result ≡ answered_at 0 (words_turn place words.now)) × (out.new ≡ placed out.old 0 (words_turn place words.now).text) }
 {
-    let mut answers = [0u32; WORDS];
-    let mut speeds = [0u32; WORDS];
-    let car = place.car;
-    let taught = car.trace(words, &mut answers, &mut speeds);
-    let n = words.len();
-    let end = listing::put_lines(out, at, place.number, &answers[0..n], &speeds);
-    let after = taught.car;
+    let Some(number) = place.number.checked_add(words.len() as u64) else {
+        return nothing_done(Stage::Driving(place));
+    };
+    let mut answers = [0; WORDS];
+    let mut speeds = [0; WORDS];
+    let Ok(taught) = place.car.trace(words, &mut answers, &mut speeds) else {
+        return nothing_done(Stage::Driving(place));
+    };
     Turned {
         stage: Stage::Driving(Place {
-            car: after,
-            number: place.number + n as u64,
+            car: taught.car,
+            number: number,
         }),
-        used: 4 * n,
-        end: end,
+        used: 4 * words.len(),
+        end: listing::put_lines(out, 0, place.number, &answers[..words.len()], &speeds),
     }
-}
-
-// The same where the car is good and the numbers do not pass 2^64 - 1; else nothing.
-fn drive_words(place: Place, words: &[u32], out: &mut [u8], at: usize) -> Turned
-    requires { (length words.now ≤ 1024) × (at + 65536 ≤ length out.old) }
-    ensures { (result ≡ answered_at at (words_turn place words.now)) × (out.new ≡ placed out.old at (words_turn place words.now).text) }
-{
-    if u64::MAX - place.number < words.len() as u64 {
-        return nothing_done(Stage::Driving(place), at);
-    }
-    let car = place.car;
-    if !car.good() {
-        return nothing_done(Stage::Driving(place), at);
-    }
-    drive(place, words, out, at)
 }
 
 // The events of some bytes.
-fn drive_bytes(place: Place, bytes: &[u8], out: &mut [u8], at: usize) -> Turned
-    requires { at + 65536 ≤ length out.old }
-    ensures { (result ≡ answered_at at (events_turn place bytes.now)) × (out.new ≡ placed out.old at (events_turn place bytes.now).text) }
+fn drive_bytes(place: Place, bytes: &[u8], out: &mut [u8]) -> Turned
+    requires { 65536 ≤ length out.old }
+    ensures { (result ≡ answered_at 0 (events_turn place bytes.now)) × (out.new ≡ placed out.old 0 (events_turn place bytes.now).text) }
 {
-    let mut words = [0u32; WORDS];
+    let mut words = [0; WORDS];
     let n = wire::words_of(bytes, &mut words);
-    drive_words(place, &words[0..n], out, at)
+    drive_words(place, &words[..n], out)
 }
 
-// The line of a refusal, from index 0 on.
-fn put_refused(out: &mut [u8], refusal: u32) -> usize
-    requires { 65600 ≤ length out.old }
-    ensures { (result ≡ length (refused_text refusal)) × (out.new ≡ placed out.old 0 (refused_text refusal)) }
-{
-    listing::put_refused(out, 0, refusal)
-}
-
-// The head line, from index 0 on.
+// The head line.
 fn put_head(out: &mut [u8]) -> usize
-    requires { 65600 ≤ length out.old }
-    ensures { (result ≡ length head_text) × (out.new ≡ placed out.old 0 head_text) }
+    requires { 64 ≤ length out.old }
+    ensures { (result ≡ length head_text) × (result ≤ 64) × (out.new ≡ placed out.old 0 head_text) }
 {
     listing::put_text(out, 0, b"n refusal speed desired accel visual acoustic\n")
 }
@@ -121,17 +98,16 @@ fn begin(car: Car, events: &[u8], out: &mut [u8]) -> Turned
     requires { 65600 ≤ length out.old }
     ensures { (result ≡ answered_at 0 (headed (events_turn (record { car = car; number = 1 }) events.now))) × (out.new ≡ placed out.old 0 (headed (events_turn (record { car = car; number = 1 }) events.now)).text) }
 {
-    let at = put_head(out);
+    let head = put_head(out);
     let place = Place {
         car: car,
         number: 1,
     };
-    let turned = drive_bytes(place, events, out, at);
-    let stage = turned.stage;
+    let turned = drive_bytes(place, events, &mut out[head..]);
     Turned {
-        stage: stage,
+        stage: turned.stage,
         used: 4 + turned.used,
-        end: turned.end,
+        end: head + turned.end,
     }
 }
 
@@ -140,15 +116,15 @@ fn open(bytes: &[u8], out: &mut [u8]) -> Turned
     requires { 65600 ≤ length out.old }
     ensures { (result ≡ answered_at 0 (turn_of Awaited bytes.now)) × (out.new ≡ placed out.old 0 (turn_of Awaited bytes.now).text) }
 {
-    if bytes.len() < 4 {
-        return nothing_done(Stage::Awaited, 0);
-    }
+    let Some(events) = bytes.get(4..) else {
+        return nothing_done(Stage::Awaited);
+    };
     match settings::start(wire::word_at(bytes, 0)) {
-        Fresh::Made(car) => begin(car, &bytes[4..], out),
-        Fresh::Refused(n) => Turned {
+        Ok(car) => begin(car, events, out),
+        Err(refusal) => Turned {
             stage: Stage::Ended,
             used: bytes.len(),
-            end: put_refused(out, n),
+            end: listing::put_refused(out, 0, u32::from(refusal)),
         },
     }
 }
@@ -159,28 +135,17 @@ pub fn turn(stage: Stage, bytes: &[u8], out: &mut [u8]) -> Turned
     ensures { (result ≡ answered_at 0 (turn_in out.old stage bytes.now)) × (out.new ≡ placed out.old 0 (turn_in out.old stage bytes.now).text) }
 {
     if out.len() < ROOM {
-        return nothing_done(stage, 0);
+        return nothing_done(stage);
     }
     match stage {
         Stage::Awaited => open(bytes, out),
-        Stage::Driving(place) => drive_bytes(place, bytes, out, 0),
+        Stage::Driving(place) => drive_bytes(place, bytes, out),
         Stage::Ended => Turned {
             stage: Stage::Ended,
             used: bytes.len(),
             end: 0,
         },
     }
-}
-
-#[tactic(auto, using(kit::specs::Pick::picks), unfolding(crate::specs::Pieces::cut_text))]
-fn put_cut(held: usize, out: &mut [u8]) -> usize
-    requires { 65600 ≤ length out.old }
-    ensures { (result ≡ length (cut_text held)) × (out.new ≡ placed out.old 0 (cut_text held)) }
-{
-    if held == 0 {
-        return 0;
-    }
-    put_refused(out, refusal::CUT_WORD)
 }
 
 // The end of the file, after which so many bytes were not used: its text stands in `out` from index 0 on, and its end is answered. With less than
@@ -191,25 +156,22 @@ pub fn close(stage: Stage, held: usize, out: &mut [u8]) -> usize
     if out.len() < ROOM {
         return 0;
     }
-    match stage {
-        Stage::Awaited => put_refused(out, refusal::SETTINGS),
-        Stage::Driving(_) => put_cut(held, out),
-        Stage::Ended => 0,
-    }
+    let refusal = match stage {
+        Stage::Awaited => Refusal::Settings,
+        Stage::Driving(_) if held == 0 => return 0,
+        Stage::Driving(_) => Refusal::CutWord,
+        Stage::Ended => return 0,
+    };
+    listing::put_refused(out, 0, u32::from(refusal))
 }
 
 // Moves the bytes that a turn did not use to the front, and counts them.
 pub fn keep(bytes: &mut [u8], used: usize) -> usize
     ensures { (result ≡ length (drop used bytes.old)) × (bytes.new ≡ drop used bytes.old ++ drop result bytes.old) }
 {
-    if bytes.len() < used {
+    let Some(count) = bytes.len().checked_sub(used) else {
         return 0;
-    }
-    let count = bytes.len() - used;
-    let mut n = 0;
-    while n < count {
-        bytes[n] = bytes[used + n];
-        n += 1;
-    }
+    };
+    bytes.copy_within(used.., 0);
     count
 }

@@ -4,8 +4,7 @@ use Rattle.std.specs.Prelude.{true, false, ◌≡◌, refl, List, [], ◌∷◌,
 use Rattle.std.proofs.Common.{ap, arith, eq-eqb, ne_eqb, eqb-true}
 use Rattle.kit.specs.Pick.{pick, pick_true, pick_false}
 use Rattle.car.specs.declared.Car.{Car}
-use Rattle.car.specs.declared.drive.Driven.{Driven}
-use Rattle.car.specs.Drive.{check_of, step_of, accepted}
+use Rattle.car.specs.Drive.{Driven, check_of, step_of, accepted}
 use Rattle.car.specs.Lesson.{driven, accepts, refuses, accepted_of, refused_of}
 use Rattle.car.proofs.LessonLaws.{counts_all}
 use Rattle.car.proofs.StepLaws.{Stepping, went, stayed, stepping, step_refusal}

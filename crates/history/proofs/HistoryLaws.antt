@@ -6,8 +6,7 @@ use Rattle.kit.specs.Pick.{pick, pick_false, and_left, no}
 use Rattle.event.specs.declared.Event.{Event}
 use Rattle.car.specs.declared.Car.{Car}
 use Rattle.car.specs.declared.Levers.{Levers}
-use Rattle.car.specs.declared.drive.Driven.{Driven}
-use Rattle.car.specs.Drive.{check_of, step_of, event_next, accepted, is_tick, accepted_tick}
+use Rattle.car.specs.Drive.{Driven, check_of, step_of, event_next, accepted, is_tick, accepted_tick}
 use Rattle.car.proofs.DriveLaws.{accepted_as_lem}
 use Rattle.car.specs.Good.{good_of, lever_held}
 use Rattle.car.proofs.GoodLaws.{good}

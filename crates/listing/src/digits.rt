@@ -3,7 +3,7 @@ ghost use Rattle.std.specs.Prelude.{◌+◌, ◌≤◌, ◌<◌, length};
 ghost use Rattle.listing.specs.Listing.{decimal_of};
 ghost use Rattle.listing.specs.Put.{Put, two_of, four_of, eight_of};
 
-// Two digits, zeros in front.
+// Two digits, zeros in front. Two, four and eight are no one function: a const parameter cannot be halved, and a loop would need an invariant.
 fn put_two(out: &mut [u8], at: usize, n: u32) -> usize
     requires { (n < 100) × (at + 2 ≤ length out.old) }
     ensures { Put out.old at (two_of n) 2 out.new result }

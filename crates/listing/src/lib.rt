@@ -6,6 +6,7 @@ ghost use Rattle.std.specs.Prelude.{◌≡◌};
 ghost use Rattle.listing.specs.Listing.{lines_past, lines_after};
 
 use crate::line::put_line;
+use crate::text::has_room;
 
 mod digits;
 mod line;
@@ -18,13 +19,10 @@ pub use text::{put_decimal, put_number_line, put_refused, put_text};
 pub fn put_lines(out: &mut [u8], at: usize, first: u64, answers: &[u32], speeds: &[u32]) -> usize
     ensures { (result ≡ lines_past out.old at first answers.now speeds.now) × (out.new ≡ lines_after out.old at first answers.now speeds.now) }
 {
-    if out.len() < at {
+    if !has_room(out, at, answers.len().saturating_mul(64)) {
         return at;
     }
-    if (out.len() - at) / 64 < answers.len() {
-        return at;
-    }
-    if u64::MAX - first < answers.len() as u64 {
+    if first.checked_add(answers.len() as u64).is_none() {
         return at;
     }
     if speeds.len() < answers.len() {
@@ -32,11 +30,9 @@ pub fn put_lines(out: &mut [u8], at: usize, first: u64, answers: &[u32], speeds:
     }
     let mut end = at;
     let mut number = first;
-    let mut i = 0;
-    while i < answers.len() {
-        end = put_line(out, end, number, answers[i], speeds[i]);
+    for (&word, &speed) in answers.iter().zip(speeds) {
+        end = put_line(out, end, number, word, speed);
         number += 1;
-        i += 1;
     }
     end
 }

@@ -16,6 +16,7 @@ fn put_field(out: &mut [u8], at: usize, n: u64) -> usize
     end + 1
 }
 
+// Beside put_field, since a line fits into 64 bytes only where a small field is known to have 5.
 fn put_small_field(out: &mut [u8], at: usize, n: u32) -> usize
     requires { (n < 10000) × (at + 5 ≤ length out.old) }
     ensures { Put out.old at (field_of n) 5 out.new result }
@@ -78,5 +79,5 @@ pub(crate) fn put_line(out: &mut [u8], at: usize, number: u64, word: u32, speed:
     requires { at + 64 ≤ length out.old }
     ensures { Put out.old at (line_of number word speed) 64 out.new result }
 {
-    put_answer(out, at, number, answer::read(word), speed)
+    put_answer(out, at, number, Answer::from(word), speed)
 }

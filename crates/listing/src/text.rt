@@ -1,34 +1,32 @@
 // A text, a number, and a line of both at an index of a slice.
-ghost use Rattle.std.specs.Prelude.{◌≡◌, ◌+◌, length};
+ghost use Rattle.std.specs.Prelude.{◌≡◌, ◌+◌, leb, length};
 ghost use Rattle.listing.specs.Listing.{decimal_of, number_line, refused_text, put_past, put_after};
 
 use crate::digits::put_number;
 
+// Whether a slice has so many bytes from an index on.
+pub(crate) fn has_room(out: &[u8], at: usize, most: usize) -> bool
+    ensures { result ≡ leb (at + most) (length out.now) }
+{
+    at.checked_add(most).is_some_and(|end| end <= out.len())
+}
+
 pub fn put_text(out: &mut [u8], at: usize, text: &[u8]) -> usize
     ensures { (result ≡ put_past out.old at (length text.now) text.now) × (out.new ≡ put_after out.old at (length text.now) text.now) }
 {
-    if out.len() < text.len() {
+    if !has_room(out, at, text.len()) {
         return at;
     }
-    if out.len() - text.len() < at {
-        return at;
-    }
-    let mut i = 0;
-    while i < text.len() {
-        out[at + i] = text[i];
-        i += 1;
-    }
-    at + text.len()
+    let end = at + text.len();
+    out[at..end].copy_from_slice(text);
+    end
 }
 
 // A number, in decimal digits. Room is 20 bytes.
 pub fn put_decimal(out: &mut [u8], at: usize, n: u64) -> usize
     ensures { (result ≡ put_past out.old at 20 (decimal_of n)) × (out.new ≡ put_after out.old at 20 (decimal_of n)) }
 {
-    if out.len() < 20 {
-        return at;
-    }
-    if out.len() - 20 < at {
+    if !has_room(out, at, 20) {
         return at;
     }
     put_number(out, at, n)
@@ -38,14 +36,7 @@ pub fn put_decimal(out: &mut [u8], at: usize, n: u64) -> usize
 pub fn put_number_line(out: &mut [u8], at: usize, name: &[u8], n: u64) -> usize
     ensures { (result ≡ put_past out.old at (length name.now + 21) (number_line name.now n)) × (out.new ≡ put_after out.old at (length name.now + 21) (number_line name.now n)) }
 {
-    if out.len() < 21 {
-        return at;
-    }
-    let room = out.len() - 21;
-    if room < name.len() {
-        return at;
-    }
-    if room - name.len() < at {
+    if !has_room(out, at, name.len() + 21) {
         return at;
     }
     let number = put_text(out, at, name);

@@ -1,153 +1,17 @@
 // The program `mark` (document 02, §5): the event of an exercise file that passed a mark, and the seconds at or above it, on standard output. The
-// work is `marking`'s; here it is read and written, and no contract can say what comes in or goes out.
+// work is `marking`'s, and the input's pieces are `pieces`'.
 #![tactic(auto)]
 
-ghost use Rattle.std.specs.Prelude.{◌≤◌, length};
-
-use car::Fresh;
-use command::Request;
-use console::Source;
+use car::Car;
+use console::Told;
+use event::Refusal;
 use marking::Stage;
+use pieces::{Pipe, Texts, Turned, Work};
 
-// How far the lesson has come, how many bytes are kept for the next piece, and whether there is more to do.
-#[derive(Clone, Copy)]
-struct Progress {
-    stage: Stage,
-    held: usize,
-    more: bool,
-}
-
-fn write(rt: &HostRuntime, text: &[u8]) -> bool {
-    console::write(
-        &mut rt.stdout(),
-        &mut rt.stderr(),
-        text,
-        b"mark: standard output",
-    )
-}
-
-// The line of a refusal; the index past it.
-fn put_refused(line: &mut [u8; 29], refusal: u32) -> usize
-    ensures { result ≤ 29 }
-{
-    listing::put_refused(line, 0, refusal)
-}
-
-// The line of a refused settings word.
-fn refuse(rt: &HostRuntime, refusal: u32) {
-    let mut line = [0u8; 29];
-    let end = put_refused(&mut line, refusal);
-    write(rt, &line[0..end]);
-}
-
-// The result, at the end of the file.
-fn finish(rt: &HostRuntime, progress: Progress) {
-    let stage = progress.stage;
-    let mut text = [0u8; 85];
-    let end = marking::put_result(stage, progress.held, &mut text);
-    write(rt, &text[0..end]);
-}
-
-// Works off a piece that has come behind the bytes kept, and keeps what is left of it.
-fn advance(progress: Progress, mark: u32, bytes: &mut [u8]) -> Progress
-    ensures { result.held ≤ length bytes.new }
-{
-    let stage = progress.stage;
-    let turned = marking::turn(stage, bytes, mark);
-    let next = turned.stage;
-    Progress {
-        stage: next,
-        held: exercise::keep(bytes, turned.used),
-        more: true,
-    }
-}
-
-fn stop(progress: Progress) -> Progress
-    ensures { result.held ≤ progress.held }
-{
-    let stage = progress.stage;
-    Progress {
-        stage: stage,
-        held: 0,
-        more: false,
-    }
-}
-
-// Reads the next piece, as much as has come, and works it off.
-fn step(
-    rt: &HostRuntime,
-    input: &mut Source,
-    what: &[u8],
-    mark: u32,
-    progress: Progress,
-    bytes: &mut [u8],
-) -> Progress
-    requires { progress.held ≤ length bytes.old }
-    ensures { result.held ≤ length bytes.new }
-{
-    let held = progress.held;
-    let piece = console::read(input, &mut rt.stderr(), &mut bytes[held..], what);
-    if piece.failed {
-        return stop(progress);
-    }
-    if piece.count == 0 {
-        finish(rt, progress);
-        return stop(progress);
-    }
-    let count = held + piece.count;
-    advance(progress, mark, &mut bytes[0..count])
-}
-
-// Piece after piece, to the end: the count of pieces only falls because nothing says that an input ends.
-fn pieces(
-    rt: &HostRuntime,
-    input: &mut Source,
-    what: &[u8],
-    mark: u32,
-    stage: Stage,
-    bytes: &mut [u8],
-) {
-    let mut progress = Progress {
-        stage: stage,
-        held: 0,
-        more: true,
-    };
-    for _ in 0..u64::MAX {
-        progress = step(rt, input, what, mark, progress, bytes);
-        if !progress.more {
-            return;
-        }
-    }
-}
-
-// The words behind the settings word.
-fn mark_events(rt: &HostRuntime, input: &mut Source, what: &[u8], mark: u32, stage: Stage) {
-    let mut bytes = [0u8; 4096];
-    pieces(rt, input, what, mark, stage, &mut bytes);
-}
-
-// The mark of an input; `what` is the program and the input's name.
-fn mark_file(rt: &HostRuntime, input: &mut Source, what: &[u8], mark: u32) {
-    let mut first = [0u8; 4];
-    let got = console::read_all(input, &mut rt.stderr(), &mut first, what);
-    if got.failed {
-        return;
-    }
-    let count = got.count;
-    match cleaning::open(&first[0..count]) {
-        Fresh::Made(car) => mark_events(rt, input, what, mark, marking::start(car)),
-        Fresh::Refused(n) => refuse(rt, n),
-    }
-}
-
-fn usage(rt: &HostRuntime) {
-    let _ = eprintln!(rt; "usage: mark MARK [FILE] (mark --help says more)");
-}
-
-fn help(rt: &HostRuntime) {
-    write(
-        rt,
-        b"usage: mark MARK [FILE]
+const TEXTS: Texts<'static> = Texts {
+    output: b"mark: standard output",
+    usage: "usage: mark MARK [FILE] (mark --help says more)",
+    help: b"usage: mark MARK [FILE]
 Finds the event of an exercise that passed a speed mark, and counts the seconds
 that ended at or above it.
 MARK is a speed in tenths of km/h: decimal digits, at most 4294967295.
@@ -163,20 +27,70 @@ A read or write that fails is told in a line on standard error, and there is no
 result. All went well exactly when standard error is empty and the status is 0.
 docs/REFERENCE.md has every word and refusal.
 ",
-    );
+};
+
+// How far the lesson has come.
+#[derive(Drop)]
+struct Search {
+    mark: u32,
+    stage: Stage,
 }
 
-fn run(rt: &HostRuntime, what: &mut [u8]) {
-    let asked = command::asked_mark(rt, b"mark: ", what);
-    match asked.request {
-        Request::Input(mut input, end) => mark_file(rt, &mut input, &what[0..end], asked.mark),
-        Request::Help => help(rt),
-        Request::Usage => usage(rt),
-        Request::Nothing => {}
+impl Work for Search {
+    // There is no text before the end.
+    #[tactic(auto, using(marking::proofs::PiecesLaws::used_within))]
+    fn turn(&mut self, bytes: &[u8], _out: &mut [u8]) -> Turned {
+        let turned = marking::turn(self.stage, bytes, self.mark);
+        self.stage = turned.stage;
+        Turned {
+            used: turned.used,
+            end: 0,
+        }
+    }
+
+    fn has_ended(&self) -> bool {
+        false
+    }
+}
+
+// The line of a refused settings word.
+fn refuse(pipe: &Pipe, refusal: Refusal) -> Result<(), Told> {
+    let mut line = [0; 29];
+    let end = pieces::put_refused(&mut line, u32::from(refusal));
+    pipe.write(&line[..end])
+}
+
+// The result of the words behind the settings word.
+#[tactic(auto, using(exercise::proofs::PiecesLaws::text_within))]
+fn mark_events(pipe: &mut Pipe, mark: u32, car: Car) -> Result<(), Told> {
+    let mut search = Search {
+        mark,
+        stage: marking::start(car),
+    };
+    let mut text = [0; 85];
+    let held = pipe.work_off(&mut search, &mut text)?;
+    let end = marking::put_result(search.stage, held, &mut text);
+    // With `..end` the check asks for the length of what is lent too, and finds no proof.
+    pipe.write(&text[0..end])
+}
+
+fn mark_file(pipe: &mut Pipe, mark: u32) -> Result<(), Told> {
+    let mut first = [0; 4];
+    let count = pipe.read_all(&mut first)?;
+    match cleaning::open(&first[..count]) {
+        Ok(car) => mark_events(pipe, mark, car),
+        Err(refusal) => refuse(pipe, refusal),
     }
 }
 
 fn main(rt: HostRuntime) {
-    let mut what = [0u8; 4104];
-    run(&rt, &mut what);
+    let mut what = [0; 4104];
+    let request = command::asked_mark(&rt, b"mark: ", &mut what);
+    let _ = pieces::answer(
+        &rt,
+        TEXTS,
+        request,
+        &what,
+        |mark, pipe| mark_file(pipe, mark),
+    );
 }

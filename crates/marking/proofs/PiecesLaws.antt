@@ -1,6 +1,6 @@
 -- Wherever a file is cut into pieces, the text behind them is that of the whole file.
 -- Assumes nothing.
-use Rattle.std.specs.Prelude.{true, List, [], ◌∷◌, ◌++◌, ◌≡◌, refl, ℕ, ◌+◌, ◌*◌, ◌/◌, ◌%◌, ◌^◌, ◌≤◌, ◌<◌, length, take, drop}
+use Rattle.std.specs.Prelude.{Some, None, true, false, List, [], ◌∷◌, ◌++◌, ◌≡◌, refl, ℕ, ◌+◌, ◌*◌, ◌/◌, ◌%◌, ◌^◌, ◌≤◌, ◌<◌, length, take, drop}
 use Rattle.std.proofs.Common.{append_assoc, append-nil, sym, ap, ◌∙◌, add_assoc, add-zero, zero-add, arith, le-ltb, length-append, length-drop, length-take, take_all, drop_at}
 use Rattle.kit.specs.Answer.{gives, refused}
 use Rattle.kit.specs.Pick.{pick_false, pick_case, or_neither, not_of_true}
@@ -11,9 +11,7 @@ use Rattle.car.proofs.LessonLaws.{driven_good, counts_all}
 use Rattle.car.specs.Mark.{seconds_of}
 use Rattle.settings.proofs.SettingsWordLaws.{started_good}
 use Rattle.history.proofs.HistoryLaws.{driven_append}
-use Rattle.passing.specs.declared.Passed.{Passed}
-use Rattle.passing.specs.declared.Passed.TheVariants.{At, Never}
-use Rattle.passing.specs.Passing.{later, onward, passed_of}
+use Rattle.passing.specs.Passing.{Passed, later, onward, passed_of}
 use Rattle.passing.proofs.PassingLaws.{later_0, passed_append, seconds_append, seconds_accepted}
 use Rattle.wire.specs.Wire.{word_at, words_of}
 use Rattle.wire.proofs.WireLaws.{words_length, words_parts, few_words}
@@ -30,14 +28,14 @@ use Rattle.marking.specs.Pieces.{fresh_stage, further_of, stuck, idle, words_tur
 -- ---- the event that passed the mark, over parts
 later_later : (k l : ℕ) (q : Passed) → later k (later l q) ≡ later (k + l) q
 unfolding later
-later_later k l (At n) = ap At (sym (add_assoc k l n))
-later_later k l Never = refl
+later_later k l (Some n) = ap Some (sym (add_assoc k l n))
+later_later k l None = refl
 
 onward_onward : (p : Passed) (k : ℕ) (q : Passed) (l : ℕ) (r : Passed) → onward (onward p k q) (k + l) r ≡ onward p k (onward q l r)
 unfolding onward later
-onward_onward (At n) k q l r = refl
-onward_onward Never k (At n) l r = refl
-onward_onward Never k Never l r = sym (later_later k l r)
+onward_onward (Some n) k q l r = refl
+onward_onward None k (Some n) l r = refl
+onward_onward None k None l r = sym (later_later k l r)
 
 -- ---- the stage behind words after words
 same_stage : {c c' : Car} {e e' : ℕ} {p p' : Passed} {n n' : ℕ} → c ≡ c' → e ≡ e' → p ≡ p' → n ≡ n'
@@ -51,10 +49,10 @@ further_append mark s us vs =
     (onward_onward s.passed s.events (passed_of mark s.car us) (length us) (passed_of mark (driven s.car us) vs) ∙ rw (passed_append mark s.car us vs))
     (omega (arith, seconds_append mark s.car us vs))
 
-onward_none : (p : Passed) (k : ℕ) → onward p k Never ≡ p
+onward_none : (p : Passed) (k : ℕ) → onward p k None ≡ p
 unfolding onward later
-onward_none (At n) k = refl
-onward_none Never k = refl
+onward_none (Some n) k = refl
+onward_none None k = refl
 
 further_none : (mark : ℕ) (s : Stage) → further_of mark s [] ≡ s
 unfolding further_of driven passed_of seconds_of
@@ -69,10 +67,14 @@ seconds_few mark c ws = omega (arith, seconds_accepted mark c ws, counts_all c w
 abbrev Fits : Stage → ℕ → Type 0
 Fits s n = (s.events + n ≤ 18446744073709551615) × (s.seconds + n ≤ 18446744073709551615)
 
+pub unstuck : (s : Stage) (ws : List ℕ) → good_of s.car ≡ true → Fits s (length ws) → stuck s ws ≡ false
+unfolding stuck
+unstuck s ws g f = or_neither _ _ (or_neither _ _ (le-ltb _ _ f.0) (le-ltb _ _ f.1)) (not_of_true _ g)
+
 pub goes : (mark : ℕ) (s : Stage) (ws : List ℕ) → good_of s.car ≡ true → Fits s (length ws)
     → words_turn mark s ws ≡ record { stage = further_of mark s ws; used = 4 * length ws }
-unfolding words_turn stuck
-goes mark s ws g f = pick_false _ _ _ (or_neither _ _ (or_neither _ _ (le-ltb _ _ f.0) (le-ltb _ _ f.1)) (not_of_true _ g))
+unfolding words_turn
+goes mark s ws g f = pick_false _ _ _ (unstuck s ws g f)
 
 -- all the words of few enough bytes
 turn_all : (mark : ℕ) (s : Stage) (bs : List ℕ) → good_of s.car ≡ true → Fits s (length bs / 4) → length bs ≤ 4099

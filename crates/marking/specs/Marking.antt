@@ -1,14 +1,12 @@
 -- The mark of an exercise file, from its bytes: document 02, §5, for instructors. `passed_of` is the event that passed the mark, `seconds_of` the seconds
 -- that ended at or above it. Text is a list of ASCII codes.
 -- Assumes nothing.
-use Rattle.std.specs.Prelude.{List, [], ◌++◌, ℕ, ◌%◌, eqb, length, drop}
+use Rattle.std.specs.Prelude.{Some, None, List, [], ◌++◌, ℕ, ◌%◌, eqb, length, drop}
 use Rattle.kit.specs.Answer.{Answer, gives, refused}
 use Rattle.kit.specs.Pick.{pick}
 use Rattle.car.specs.declared.Car.{Car}
 use Rattle.car.specs.Mark.{seconds_of}
-use Rattle.passing.specs.declared.Passed.{Passed}
-use Rattle.passing.specs.declared.Passed.TheVariants.{At, Never}
-use Rattle.passing.specs.Passing.{passed_of}
+use Rattle.passing.specs.Passing.{Passed, passed_of}
 use Rattle.wire.specs.Wire.{words_of}
 use Rattle.listing.specs.Listing.{ascii, number_line, refused_text}
 use Rattle.cleaning.specs.Cleaning.{open_of, end_refusal}
@@ -16,8 +14,8 @@ use Rattle.cleaning.specs.Cleaning.{open_of, end_refusal}
 -- ---- its lines
 -- "the number of the event", or "never"
 unfoldable pub passed_text : Passed → List ℕ
-passed_text (At n) = number_line (ascii "event ") n
-passed_text Never = ascii "never\n"
+passed_text (Some n) = number_line (ascii "event ") n
+passed_text None = ascii "never\n"
 
 unfoldable pub seconds_text : ℕ → List ℕ
 seconds_text n = number_line (ascii "seconds ") n

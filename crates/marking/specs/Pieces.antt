@@ -1,15 +1,15 @@
 -- The mark of a file found piece by piece: what a turn gives, and the text behind a file's pieces.
 -- Assumes nothing.
-use Rattle.std.specs.Prelude.{Bool, ◌||◌, not, List, [], ◌∷◌, ◌++◌, ℕ, ◌+◌, ◌*◌, ltb, length, take, drop}
+use Rattle.std.specs.Prelude.{None, Result, Ok, Err, Bool, ◌||◌, not, List, [], ◌∷◌, ◌++◌, ℕ, ◌+◌, ◌*◌, ltb, length, take, drop}
 use Rattle.kit.specs.Pick.{pick}
+use Rattle.event.specs.declared.refusal.Refusal.{Refusal}
+use Rattle.event.specs.Refusal.{refusal_number}
 use Rattle.car.specs.declared.Car.{Car}
 use Rattle.car.specs.Good.{good_of}
 use Rattle.car.specs.Lesson.{driven}
 use Rattle.car.specs.Mark.{seconds_of}
-use Rattle.passing.specs.declared.Marked.{Marked}
-use Rattle.passing.specs.declared.Passed.{Passed}
-use Rattle.passing.specs.declared.Passed.TheVariants.{Never}
-use Rattle.passing.specs.Passing.{onward, passed_of}
+use Rattle.passing.specs.declared.Marked as marked
+use Rattle.passing.specs.Passing.{Passed, Marked, onward, passed_of}
 use Rattle.wire.specs.Wire.{words_of}
 use Rattle.cleaning.specs.Cleaning.{end_refusal}
 use Rattle.marking.specs.declared.Stage.{Stage}
@@ -18,7 +18,7 @@ use Rattle.marking.specs.Marking.{result_text}
 
 -- before the first event
 unfoldable pub fresh_stage : Car → Stage
-fresh_stage c = record { car = c; events = 0; passed = Never; seconds = 0 }
+fresh_stage c = record { car = c; events = 0; passed = None; seconds = 0 }
 
 -- ---- some words behind so many events
 -- from a car, with what passed the mark before: the car behind them, the event that passed the mark, numbered from the first of all, and their own seconds.
@@ -28,6 +28,11 @@ page_of mark c events passed ws =
     pick (good_of c)
     (record { car = driven c ws; passed = onward passed events (passed_of mark c ws); seconds = seconds_of mark c ws; refusal = 0 })
     (record { car = c; passed = passed; seconds = 0; refusal = 18 })
+
+-- what a result says of the stage that they came behind: refused, it is kept
+abbrev pub page_answer : Stage → Result marked.Marked Refusal → Marked
+page_answer s (Ok t) = record { car = t.car; passed = t.passed; seconds = t.seconds; refusal = 0 }
+page_answer s (Err r) = record { car = s.car; passed = s.passed; seconds = 0; refusal = refusal_number r }
 
 -- from a stage: the stage behind them
 unfoldable pub further_of : ℕ → Stage → List ℕ → Stage

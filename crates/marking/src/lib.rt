@@ -2,23 +2,24 @@
 // piece behind that, `put_result` at the end. specs/Marking.antt has the text of a whole file, and proofs/PiecesLaws.antt that the pieces give it.
 #![tactic(auto, using(kit::specs::Pick::picks))]
 
-ghost use Rattle.std.specs.Prelude.{◌≡◌, ◌+◌, ◌≤◌, length};
+ghost use Rattle.std.specs.Prelude.{◌≡◌, ◌+◌, ◌≤◌, length, Some, None};
+ghost use Rattle.kit.specs.Pick.{pick};
 ghost use Rattle.kit.specs.Placed.{placed};
+ghost use Rattle.event.specs.Refusal.{number};
 ghost use Rattle.listing.specs.Put.{Put};
-ghost use Rattle.passing.specs.declared.Passed.TheVariants.{At, Never};
-ghost use Rattle.passing.specs.Passing.{event_number, later};
 ghost use Rattle.marking.specs.Marking.{passed_text, seconds_text, refusal_text};
-ghost use Rattle.marking.specs.Pieces.{fresh_stage, page_of, idle, words_turn, turn_of, end_in};
+ghost use Rattle.marking.specs.Pieces.{fresh_stage, page_answer, page_of, further_of, stuck, turn_of, end_in};
 
 use car::Car;
-use passing::{Marked, Passed};
+use event::Refusal;
+use passing::Marked;
 
 // How far a lesson has come: its car, its events so far, the one that passed the mark, and the seconds that ended at or above it.
 #[derive(Clone, Copy)]
 pub struct Stage {
     car: Car,
     events: usize,
-    passed: Passed,
+    passed: Option<usize>,
     seconds: usize,
 }
 
@@ -43,121 +44,78 @@ pub fn start(car: Car) -> Stage
     Stage {
         car: car,
         events: 0,
-        passed: Passed::Never,
+        passed: None,
         seconds: 0,
     }
 }
 
-// The number of an event, moved by the events before.
-#[tactic(auto, using(kit::specs::Pick::picks), unfolding(passing::specs::Passing::event_number, passing::specs::Passing::later))]
-fn moved(passed: Passed, events: usize) -> Passed
-    requires { events + event_number passed ≤ 18446744073709551615 }
-    ensures { result ≡ later events passed }
-{
-    match passed {
-        Passed::At(n) => Passed::At(events + n),
-        Passed::Never => Passed::Never,
-    }
-}
-
-// Some words behind so many events, none of which passed the mark.
-fn search(car: Car, events: usize, words: &[u32], mark: u32) -> Marked
-    requires { events + length words.now ≤ 18446744073709551615 }
-    ensures { result ≡ page_of mark car events Never words.now }
-{
-    let page = passing::of_lesson(car, words, mark);
-    let passed = page.passed;
-    let found = moved(passed, events);
-    let after = page.car;
-    Marked {
-        car: after,
-        passed: found,
-        seconds: page.seconds,
-        refusal: page.refusal,
-    }
-}
-
-// Some words behind the event that passed the mark: only their seconds are counted.
-fn count(car: Car, number: usize, words: &[u32], mark: u32) -> Marked
-    ensures { result ≡ page_of mark car 0 (At number) words.now }
-{
-    let page = passing::seconds(car, words, mark);
-    let after = page.car;
-    Marked {
-        car: after,
-        passed: Passed::At(number),
-        seconds: page.seconds,
-        refusal: page.refusal,
-    }
-}
-
-// Some words behind a stage: the event that passed the mark is looked for while there is none.
-fn drive(stage: Stage, words: &[u32], mark: u32) -> Marked
+// Some words behind a stage: the event that passed the mark, looked for while there is none, and their own seconds.
+#[tactic(auto, using(kit::specs::Pick::picks, crate::proofs::Turning::counted), unfolding(passing::specs::Passing::later))]
+fn drive(stage: Stage, words: &[u32], mark: u32) -> Result<Marked, Refusal>
     requires { stage.events + length words.now ≤ 18446744073709551615 }
-    ensures { result ≡ page_of mark stage.car stage.events stage.passed words.now }
+    ensures { page_answer stage result ≡ page_of mark stage.car stage.events stage.passed words.now }
 {
-    let car = stage.car;
-    let passed = stage.passed;
-    match passed {
-        Passed::At(n) => count(car, n, words, mark),
-        Passed::Never => search(car, stage.events, words, mark),
+    match stage.passed {
+        Some(_) => {
+            let page = passing::seconds(stage.car, words, mark)?;
+            Ok(Marked {
+                car: page.car,
+                passed: stage.passed,
+                seconds: page.seconds,
+            })
+        }
+        None => {
+            let page = passing::of_lesson(stage.car, words, mark)?;
+            Ok(Marked {
+                car: page.car,
+                passed: page.passed.map(|n| stage.events + n),
+                seconds: page.seconds,
+            })
+        }
     }
 }
 
-#[tactic(auto, using(kit::specs::Pick::picks), unfolding(crate::specs::Pieces::idle))]
-fn nothing_done(stage: Stage) -> Turned
-    ensures { result ≡ idle stage }
+// The stage behind some words; none where a number could pass 2^64 - 1 or the car is not good.
+#[tactic(auto, using(kit::specs::Pick::picks, crate::proofs::Turning::page_few, crate::proofs::Turning::not_good), unfolding(crate::specs::Pieces::stuck))]
+fn further(stage: Stage, words: &[u32], mark: u32) -> Option<Stage>
+    ensures { result ≡ pick (stuck stage words.now) None (Some (further_of mark stage words.now)) }
 {
-    Turned {
-        stage: stage,
-        used: 0,
-    }
-}
-
-// Some words; nothing where a number could pass 2^64 - 1 or the car is not good.
-fn turn_words(stage: Stage, words: &[u32], mark: u32) -> Turned
-    requires { length words.now ≤ 1024 }
-    ensures { result ≡ words_turn mark stage words.now }
-{
-    if usize::MAX - stage.events < words.len() {
-        return nothing_done(stage);
-    }
-    if usize::MAX - stage.seconds < words.len() {
-        return nothing_done(stage);
-    }
-    let page = drive(stage, words, mark);
-    if page.refusal != 0 {
-        return nothing_done(stage);
-    }
-    let after = page.car;
-    let passed = page.passed;
-    Turned {
-        stage: Stage {
-            car: after,
-            events: stage.events + words.len(),
-            passed: passed,
-            seconds: stage.seconds + page.seconds,
-        },
-        used: 4 * words.len(),
-    }
+    let events = stage.events.checked_add(words.len())?;
+    stage.seconds.checked_add(words.len())?;
+    let page = drive(stage, words, mark).ok()?;
+    Some(Stage {
+        car: page.car,
+        events: events,
+        passed: page.passed,
+        seconds: stage.seconds + page.seconds,
+    })
 }
 
 // One turn over the bytes that have come and were not used.
 pub fn turn(stage: Stage, bytes: &[u8], mark: u32) -> Turned
     ensures { result ≡ turn_of mark stage bytes.now }
 {
-    let mut words = [0u32; WORDS];
+    let mut words = [0; WORDS];
     let n = wire::words_of(bytes, &mut words);
-    turn_words(stage, &words[0..n], mark)
+    match further(stage, &words[..n], mark) {
+        Some(behind) => Turned {
+            stage: behind,
+            used: 4 * n,
+        },
+        None => Turned {
+            stage: stage,
+            used: 0,
+        },
+    }
 }
 
-fn put_passed(out: &mut [u8], at: usize, passed: Passed) -> usize
+fn put_passed(out: &mut [u8], at: usize, passed: Option<usize>) -> usize
     requires { at + 27 ≤ length out.old }
     ensures { Put out.old at (passed_text passed) 27 out.new result }
 {
     match passed {
-        Passed::At(n) => listing::put_number_line(out, at, b"event ", n as u64),
-        Passed::Never => listing::put_text(out, at, b"never\n"),
+        Some(n) => listing::put_number_line(out, at, b"event ", n as u64),
+        None => listing::put_text(out, at, b"never\n"),
     }
 }
 
@@ -168,27 +126,28 @@ fn put_seconds(out: &mut [u8], at: usize, seconds: usize) -> usize
     listing::put_number_line(out, at, b"seconds ", seconds as u64)
 }
 
-// The line of a refusal; 0 is none.
-fn put_refusal(out: &mut [u8], at: usize, refusal: u32) -> usize
+// The line of a refusal, if there is one.
+#[tactic(auto, using(kit::specs::Pick::picks, crate::proofs::Writing::none_put), unfolding(crate::specs::Marking::refusal_text))]
+fn put_refusal(out: &mut [u8], at: usize, end: Result<(), Refusal>) -> usize
     requires { at + 29 ≤ length out.old }
-    ensures { Put out.old at (refusal_text refusal) 29 out.new result }
+    ensures { Put out.old at (refusal_text (number end)) 29 out.new result }
 {
-    if refusal == 0 {
-        return at;
+    match end {
+        Ok(()) => at,
+        Err(refusal) => listing::put_refused(out, at, u32::from(refusal)),
     }
-    listing::put_refused(out, at, refusal)
 }
 
 // The end of the file, after which so many bytes were not used: its text stands in `out` from index 0 on, and its end is answered. With less than 85
 // bytes there nothing is put.
+#[tactic(auto, using(kit::specs::Pick::picks, kit::specs::Placed::placed_nothing), unfolding(crate::specs::Pieces::end_in))]
 pub fn put_result(stage: Stage, held: usize, out: &mut [u8]) -> usize
     ensures { (result ≡ length (end_in out.old stage held)) × (out.new ≡ placed out.old 0 (end_in out.old stage held)) }
 {
     if out.len() < ROOM {
         return 0;
     }
-    let passed = stage.passed;
-    let seconds = put_passed(out, 0, passed);
+    let seconds = put_passed(out, 0, stage.passed);
     let refusal = put_seconds(out, seconds, stage.seconds);
     put_refusal(out, refusal, cleaning::close(held))
 }

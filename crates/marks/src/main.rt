@@ -5,11 +5,14 @@
 // event, and the count's refusal and seconds; for a file the text of its mark.
 #![tactic(auto)]
 
-ghost use Rattle.std.specs.Prelude.{◌≤◌, length};
+ghost use Rattle.std.specs.Prelude.{◌≤◌};
 
-use car::{Car, Fresh};
+use car::Car;
+use event::refusal::number;
 use marking::Stage;
-use passing::Passed;
+use passing::{Counted, Marked};
+use std::convert::Infallible;
+use tester::Reader;
 
 // A lesson's words start here in the program's own array.
 const START: usize = 3;
@@ -17,20 +20,10 @@ const START: usize = 3;
 // No count of words is larger.
 const MOST: usize = 3072;
 
-// The index of the next word of the input and the index past the text.
-#[derive(Clone, Copy)]
-struct Place {
-    next: usize,
-    end: usize,
-}
+// A file has no more bytes, and so many words.
+const BYTES: usize = 4112;
 
-// The number of an event, 0 for never.
-fn event_number(passed: Passed) -> usize {
-    match passed {
-        Passed::At(number) => number,
-        Passed::Never => 0,
-    }
-}
+const WORDS: usize = 1028;
 
 fn by_library(out: &mut [u8], at: usize, record: &[u32], words: &[u32], mark: u32) -> usize {
     let mut event = 99;
@@ -40,28 +33,33 @@ fn by_library(out: &mut [u8], at: usize, record: &[u32], words: &[u32], mark: u3
 }
 
 fn by_lesson(out: &mut [u8], at: usize, car: Car, words: &[u32], mark: u32) -> usize {
-    let marked = passing::of_lesson(car, words, mark);
-    let passed = marked.passed;
-    let after = marked.car;
-    let end = tester::lesson_line(
-        out,
-        at,
-        marked.refusal,
-        event_number(passed),
-        marked.seconds,
-    );
-    tester::car_line(out, end, after)
+    let answer = passing::of_lesson(car, words, mark);
+    let refusal = number(&answer);
+    let marked = answer.unwrap_or(Marked {
+        car: car,
+        passed: None,
+        seconds: 0,
+    });
+    let event = marked.passed.unwrap_or(0);
+    let end = tester::lesson_line(out, at, refusal, event, marked.seconds);
+    tester::car_line(out, end, marked.car)
 }
 
 fn by_search(out: &mut [u8], at: usize, car: Car, words: &[u32], mark: u32) -> usize {
-    let first = passing::search(car, words, mark);
-    let passed = first.passed;
-    tester::count_line(out, at, first.refusal, event_number(passed))
+    let answer = passing::search(car, words, mark);
+    let refusal = number(&answer);
+    let passed = answer.unwrap_or(None);
+    tester::count_line(out, at, refusal, passed.unwrap_or(0))
 }
 
 fn by_seconds(out: &mut [u8], at: usize, car: Car, words: &[u32], mark: u32) -> usize {
-    let counted = passing::seconds(car, words, mark);
-    tester::count_line(out, at, counted.refusal, counted.seconds)
+    let answer = passing::seconds(car, words, mark);
+    let refusal = number(&answer);
+    let counted = answer.unwrap_or(Counted {
+        car: car,
+        seconds: 0,
+    });
+    tester::count_line(out, at, refusal, counted.seconds)
 }
 
 fn by_calls(out: &mut [u8], at: usize, car: Car, words: &[u32], mark: u32) -> usize {
@@ -70,162 +68,109 @@ fn by_calls(out: &mut [u8], at: usize, car: Car, words: &[u32], mark: u32) -> us
     by_seconds(out, second, car, words, mark)
 }
 
-// Stores a lesson's words, behind their count in the input, and answers the index past them.
-fn lesson(words: &mut [u32], input: &[u32], at: usize) -> usize
-    requires { 3075 ≤ length words.old }
-    ensures { (3 ≤ result) × (result ≤ 3075) }
-{
-    let end = START + tester::size(input, at, MOST);
-    let from = tester::past(input, at, 1);
-    tester::fill(&mut words[START..end], input, from);
-    end
+// The next words of the input, behind their count, in a part of the program's own array.
+fn lesson<'a>(words: &'a mut [u32; 3075], input: &mut Reader<'_>) -> &'a [u32] {
+    let part = &mut words[START..START + input.size(MOST)];
+    input.fill(part);
+    part
 }
 
-// The lesson of a record that is the next of the input.
-fn record_words(
-    place: Place,
-    out: &mut [u8],
-    input: &[u32],
-    record: &mut [u32],
-    mark: u32,
-) -> Place {
-    tester::fill(record, input, place.next);
-    let at = tester::past(input, place.next, record.len());
+fn record_case(input: &mut Reader<'_>, out: &mut [u8], at: usize) -> usize {
+    let mark = input.next();
+    let mut array = [0; 13];
+    let record = &mut array[..input.size(13)];
+    input.fill(record);
     let mut words = [0; 3075];
-    let end = lesson(&mut words, input, at);
-    Place {
-        next: tester::past(input, at, 1 + end - START),
-        end: by_library(out, place.end, record, &words[START..end], mark),
-    }
+    by_library(out, at, record, lesson(&mut words, input), mark)
 }
 
-fn record_case(place: Place, out: &mut [u8], input: &[u32]) -> Place {
-    let mark = tester::word(input, place.next);
-    let second = tester::past(input, place.next, 1);
-    let length = tester::size(input, second, 13);
-    let mut record = [0; 13];
-    let from = Place {
-        next: tester::past(input, second, 1),
-        end: place.end,
-    };
-    record_words(from, out, input, &mut record[0..length], mark)
-}
-
-fn car_case(place: Place, out: &mut [u8], input: &[u32]) -> Place {
-    let car = tester::car_at(input, place.next);
-    let second = tester::past(input, place.next, 23);
-    let mark = tester::word(input, second);
-    let at = tester::past(input, second, 1);
+fn car_case(input: &mut Reader<'_>, out: &mut [u8], at: usize) -> usize {
+    let car = tester::car_at(&input.take::<23>(), 0);
+    let mark = input.next();
     let mut words = [0; 3075];
-    let end = lesson(&mut words, input, at);
-    Place {
-        next: tester::past(input, at, 1 + end - START),
-        end: by_calls(out, place.end, car, &words[START..end], mark),
-    }
+    by_calls(out, at, car, lesson(&mut words, input), mark)
 }
 
 // The text at the end of a file, after which so many bytes were not used.
+#[tactic(auto, using(exercise::proofs::PiecesLaws::text_within))]
 fn finish(out: &mut [u8], at: usize, stage: Stage, held: usize) -> usize {
     let mut text = [0u8; 85];
     let end = marking::put_result(stage, held, &mut text);
     tester::text(out, at, &text[0..end])
 }
 
-// A file's text, piece by piece behind the settings word.
-fn mark_pieces(out: &mut [u8], at: usize, car: Car, bytes: &[u8], cut: usize, mark: u32) -> usize
-    requires { (4 ≤ length bytes.now) × (1 ≤ cut) }
+// A turn over a piece: how many bytes of it were used.
+fn turn(stage: &mut Stage, piece: &[u8], mark: u32) -> usize {
+    let turned = marking::turn(*stage, piece, mark);
+    *stage = turned.stage;
+    turned.used
+}
+
+// A file's text, by the bytes behind its settings word.
+fn mark_pieces(out: &mut [u8], at: usize, car: Car, events: &[u8], cut: usize, mark: u32) -> usize
+    requires { 1 ≤ cut }
 {
     let mut stage = marking::start(car);
-    let mut from = 4;
-    let mut to = 4;
-    while to < bytes.len() {
-        to = tester::further(to, cut, bytes.len());
-        let turned = marking::turn(stage, &bytes[from..to], mark);
-        stage = turned.stage;
-        from += turned.used;
-    }
-    finish(out, at, stage, bytes.len() - from)
+    let Ok(left) = tester::pieces(events, cut, |piece| {
+        Ok::<usize, Infallible>(turn(&mut stage, piece, mark))
+    });
+    finish(out, at, stage, left)
 }
 
 fn mark_file(out: &mut [u8], at: usize, bytes: &[u8], cut: usize, mark: u32) -> usize
     requires { 1 ≤ cut }
 {
     match cleaning::open(bytes) {
-        Fresh::Made(car) => mark_pieces(out, at, car, bytes, cut, mark),
-        Fresh::Refused(n) => listing::put_refused(out, at, n),
+        Ok(car) => mark_pieces(out, at, car, bytes.get(4..).unwrap_or(&[]), cut, mark),
+        Err(refusal) => listing::put_refused(out, at, u32::from(refusal)),
     }
 }
 
-// A file whose bytes stand in the next words of the input.
-fn file_words(
-    place: Place,
-    out: &mut [u8],
-    input: &[u32],
-    cut: usize,
-    words: &mut [u32],
-    length: usize,
-    mark: u32,
-) -> Place
-    requires { (1 ≤ cut) × (length ≤ 4112) }
+// The file whose length and bytes are the next of the input: its length.
+fn file(bytes: &mut [u8; BYTES], input: &mut Reader<'_>) -> usize
+    ensures { result ≤ 4112 }
 {
-    tester::fill(words, input, place.next);
-    let mut bytes = [0u8; 4112];
-    wire::bytes_of(words, &mut bytes);
-    Place {
-        next: tester::past(input, place.next, words.len()),
-        end: mark_file(out, place.end, &bytes[0..length], cut, mark),
-    }
+    let length = input.size(BYTES);
+    let mut words = [0; WORDS];
+    let part = &mut words[..length.div_ceil(4)];
+    input.fill(part);
+    wire::bytes_of(part, bytes);
+    length
 }
 
 // A file; pieces of no byte are no case.
-fn file_case(place: Place, out: &mut [u8], input: &[u32]) -> Place {
-    let mark = tester::word(input, place.next);
-    let second = tester::past(input, place.next, 1);
-    let cut = tester::size(input, second, 4096);
+fn file_case(input: &mut Reader<'_>, out: &mut [u8], at: usize) -> usize {
+    let mark = input.next();
+    let cut = input.size(4096);
     if cut == 0 {
-        return place;
+        return at;
     }
-    let third = tester::past(input, second, 1);
-    let length = tester::size(input, third, 4112);
-    let end = (length + 3) / 4;
-    let mut words = [0; 1028];
-    let from = Place {
-        next: tester::past(input, third, 1),
-        end: place.end,
-    };
-    file_words(from, out, input, cut, &mut words[0..end], length, mark)
+    let mut bytes = [0u8; BYTES];
+    let length = file(&mut bytes, input);
+    mark_file(out, at, &bytes[..length], cut, mark)
 }
 
-fn case(kind: u32, place: Place, out: &mut [u8], input: &[u32]) -> Place {
+fn case(kind: u32, input: &mut Reader<'_>, out: &mut [u8], at: usize) -> usize {
     match kind {
-        1 => record_case(place, out, input),
-        2 => car_case(place, out, input),
-        _ => file_case(place, out, input),
+        1 => record_case(input, out, at),
+        2 => car_case(input, out, at),
+        _ => file_case(input, out, at),
     }
 }
 
-// As many cases as there are words at most: each takes one.
-fn cases(out: &mut [u8], input: &[u32]) -> usize {
-    let mut place = Place { next: 0, end: 0 };
-    for _ in 0..input.len() {
-        let kind = tester::word(input, place.next);
-        if kind == 0 {
-            return place.end;
-        }
-        place.next = tester::past(input, place.next, 1);
-        place = case(kind, place, out, input);
-    }
-    place.end
+fn cases(words: &[u32], out: &mut [u8]) -> usize {
+    tester::cases(words, out, case)
 }
 
 fn main(rt: HostRuntime) {
     let mut words = [0; 32768];
-    let input = tester::read_words(&rt, &mut words, b"marks: standard input");
-    if input.failed {
-        return;
-    }
     let mut out = [0; 32768];
-    let count = input.count;
-    let end = cases(&mut out, &words[0..count]);
-    tester::write(&rt, &out, end, b"marks: standard output");
+    tester::run(
+        &rt,
+        &mut words,
+        &mut out,
+        b"marks: standard input",
+        b"marks: standard output",
+        cases,
+    );
 }

@@ -8,20 +8,11 @@ ghost use Rattle.motion.specs.Acceleration.{backed_off, target, acceleration_cod
 ghost use Rattle.motion.specs.AccelerationShape.{decoded};
 ghost use Rattle.motion.specs.Speed.{at_most};
 
-use number::least;
-
 // A signed number as its sign and size; 0 does not slow.
-#[derive(Clone, Copy)]
+#[derive(Clone, Copy, Debug, Default, PartialEq, Eq)]
 pub struct Acceleration {
     pub slows: bool,
     pub size: u32,
-}
-
-// How far two numbers are apart.
-pub fn apart(a: u32, b: u32) -> u32
-    ensures { result ≡ (a - b) + (b - a) }
-{
-    if a < b { b - a } else { a - b }
 }
 
 #[tactic(auto, using(kit::specs::Pick::picks), unfolding(crate::specs::AccelerationShape::decoded))]
@@ -30,7 +21,7 @@ pub fn decoded(code: u32) -> Acceleration
 {
     Acceleration {
         slows: code < 60,
-        size: apart(60, code),
+        size: code.abs_diff(60),
     }
 }
 
@@ -49,7 +40,7 @@ pub fn target(ahead: bool, desired: u32, lead: u32) -> u32
     ensures { result ≡ target ahead desired lead }
 {
     if ahead {
-        return least(desired, lead);
+        return desired.min(lead);
     }
     desired
 }
@@ -59,7 +50,7 @@ pub fn at_most(on: bool, most: u32, speed: u32) -> u32
     ensures { result ≡ at_most on most speed }
 {
     if on {
-        return least(speed, most);
+        return speed.min(most);
     }
     speed
 }

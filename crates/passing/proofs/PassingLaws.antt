@@ -1,6 +1,6 @@
 -- The answers about a mark are what document 02, §5 says, of every car, list of words and mark; and they are put together from those of a lesson's parts.
 -- Assumes nothing.
-use Rattle.std.specs.Prelude.{Bool, true, false, ◌&&◌, ℕ, suc, ◌+◌, ◌≤◌, ◌<◌, ltb, leb, length}
+use Rattle.std.specs.Prelude.{Some, None, Bool, true, false, ◌&&◌, ℕ, suc, ◌+◌, ◌≤◌, ◌<◌, ltb, leb, length}
 use Rattle.std.proofs.Math.Path.{◌≡◌, refl, ap}
 use Rattle.std.proofs.Common.{sym, length-append}
 use mathlib.Core.List.{List, [], ◌∷◌, ◌++◌}
@@ -19,9 +19,7 @@ use Rattle.car.proofs.MarkLaws.{passes_says, says_passes, passes_0}
 use Rattle.car.proofs.StepLaws.{step_good}
 use Rattle.history.proofs.AcceptedLaws.{by_word}
 use Rattle.history.specs.History.{ticks_of}
-use Rattle.passing.specs.declared.Passed.{Passed}
-use Rattle.passing.specs.declared.Passed.TheVariants.{At, Never}
-use Rattle.passing.specs.Passing.{event_number, later, onward, passed_of, search_of, count_of, mark_of}
+use Rattle.passing.specs.Passing.{Passed, event_number, later, onward, passed_of, search_of, count_of, mark_of}
 use Rattle.passing.specs.FirstPass.{NonePasses, PassesAt, Searched}
 
 -- ---- none of a list passes
@@ -65,7 +63,7 @@ module _ (mark : ℕ) where
 
 -- ---- the words that the search drives
 module _ (mark : ℕ) where
-  unfound_never : (c : Car) (ws : List ℕ) → found mark c ws ≡ false → passed_of mark c ws ≡ Never
+  unfound_never : (c : Car) (ws : List ℕ) → found mark c ws ≡ false → passed_of mark c ws ≡ None
   unfolding found passed_of later pick
   unfound_never c [] f = refl
   unfound_never c (w ∷ ws) f =
@@ -81,13 +79,13 @@ module _ (mark : ℕ) where
       (λ t. no (rw t at f))
       (λ t. rw (t, unfound_whole (step_of c w).car ws (rw t at f)))
 
-  found_at : (c : Car) (ws : List ℕ) → found mark c ws ≡ true → passed_of mark c ws ≡ At (length (searched mark c ws))
+  found_at : (c : Car) (ws : List ℕ) → found mark c ws ≡ true → passed_of mark c ws ≡ Some (length (searched mark c ws))
   unfolding found searched passed_of later pick
   found_at c [] f = no (sym f)
   found_at c (w ∷ ws) f =
       either (passes mark c w)
       (λ t. rw t)
-      (λ t. rw (t, found_at (step_of c w).car ws (rw t at f)) (ap At (omega arith)))
+      (λ t. rw (t, found_at (step_of c w).car ws (rw t at f)) (ap Some (omega arith)))
 
   searched_rest : (c : Car) (ws : List ℕ) → (rest : List ℕ) × (ws ≡ searched mark c ws ++ rest)
   unfolding searched pick
@@ -128,30 +126,30 @@ module _ (mark : ℕ) where
 
 -- ---- the number
 module _ (mark : ℕ) (c : Car) (ws : List ℕ) where
-  pub never_exactly : passed_of mark c ws ≡ Never → NonePasses mark c ws
+  pub never_exactly : passed_of mark c ws ≡ None → NonePasses mark c ws
   never_exactly e =
       either (found mark c ws)
       (λ f. let s = found_at mark c ws f in let z : ◌≡◌ {A = ℕ} 0 1 = cc in absurd (omega arith))
       (λ f. unfound_none mark c ws f)
 
-  pub exactly_never : NonePasses mark c ws → passed_of mark c ws ≡ Never
+  pub exactly_never : NonePasses mark c ws → passed_of mark c ws ≡ None
   exactly_never n = unfound_never mark c ws (none_unfound mark c ws n)
 
 -- of a lesson's two parts
 pub later_0 : (q : Passed) → later 0 q ≡ q
 unfolding later
-later_0 (At n) = ap At (omega arith)
-later_0 Never = refl
+later_0 (Some n) = ap Some (omega arith)
+later_0 None = refl
 
 later_suc : (k : ℕ) (q : Passed) → later 1 (later k q) ≡ later (suc k) q
 unfolding later
-later_suc k (At n) = ap At (omega arith)
-later_suc k Never = refl
+later_suc k (Some n) = ap Some (omega arith)
+later_suc k None = refl
 
 later_onward : (p : Passed) (k : ℕ) (q : Passed) → later 1 (onward p k q) ≡ onward (later 1 p) (suc k) q
 unfolding later onward
-later_onward (At n) k q = refl
-later_onward Never k q = later_suc k q
+later_onward (Some n) k q = refl
+later_onward None k q = later_suc k q
 
 pub passed_append : (mark : ℕ) (c : Car) (us vs : List ℕ)
     → passed_of mark c (us ++ vs) ≡ onward (passed_of mark c us) (length us) (passed_of mark (driven c us) vs)
@@ -164,12 +162,12 @@ passed_append mark c (w ∷ us) vs =
 
 -- ---- the number, exactly
 module _ (mark : ℕ) where
-  later_at : (q : Passed) (n : ℕ) → later 1 q ≡ At n → (m : ℕ) × (q ≡ At m) × (n ≡ 1 + m)
+  later_at : (q : Passed) (n : ℕ) → later 1 q ≡ Some n → (m : ℕ) × (q ≡ Some m) × (n ≡ 1 + m)
   unfolding later
-  later_at (At m) n e = (m, refl, cc)
-  later_at Never n e = let z : ◌≡◌ {A = ℕ} 0 1 = cc in absurd (omega arith)
+  later_at (Some m) n e = (m, refl, cc)
+  later_at None n e = let z : ◌≡◌ {A = ℕ} 0 1 = cc in absurd (omega arith)
 
-  here : (c : Car) (w : ℕ) (ws : List ℕ) (n : ℕ) → passes mark c w ≡ true → At 1 ≡ At n → PassesAt mark c (w ∷ ws) n
+  here : (c : Car) (w : ℕ) (ws : List ℕ) (n : ℕ) → passes mark c w ≡ true → Some 1 ≡ Some n → PassesAt mark c (w ∷ ws) n
   unfolding driven
   here c w ws n t e = let s = passes_says mark c w t in let q : 1 ≡ n = cc in record {
     before = [];
@@ -197,7 +195,7 @@ module _ (mark : ℕ) where
     first = none_cons mark c w p.before t p.first;
   }
 
-  pub at_exactly : (c : Car) (ws : List ℕ) (n : ℕ) → passed_of mark c ws ≡ At n → PassesAt mark c ws n
+  pub at_exactly : (c : Car) (ws : List ℕ) (n : ℕ) → passed_of mark c ws ≡ Some n → PassesAt mark c ws n
   unfolding passed_of pick
   at_exactly c [] n e = let z : ◌≡◌ {A = ℕ} 0 1 = cc in absurd (omega arith)
   at_exactly c (w ∷ ws) n e =
@@ -206,33 +204,33 @@ module _ (mark : ℕ) where
       (λ t. let l = later_at (passed_of mark (step_of c w).car ws) n (rw t at e) in
       further c w ws l.0 n t (at_exactly (step_of c w).car ws l.0 l.1) l.2)
 
-  pub exactly_at : (c : Car) (ws : List ℕ) (n : ℕ) → PassesAt mark c ws n → passed_of mark c ws ≡ At n
+  pub exactly_at : (c : Car) (ws : List ℕ) (n : ℕ) → PassesAt mark c ws n → passed_of mark c ws ≡ Some n
   unfolding passed_of onward later pick
   exactly_at c ws n p =
       let t = says_passes mark (driven c p.before) p.word p.tick p.below p.above in
       rw (p.split, passed_append mark c p.before (p.word ∷ p.after), exactly_never mark c p.before p.first, t, p.number)
 
-  pub event_number_lem : (c : Car) (ws : List ℕ) (n : ℕ) → passed_of mark c ws ≡ At n → (1 ≤ n) × (n ≤ length ws)
+  pub event_number_lem : (c : Car) (ws : List ℕ) (n : ℕ) → passed_of mark c ws ≡ Some n → (1 ≤ n) × (n ≤ length ws)
   event_number_lem c ws n e =
       let p = at_exactly c ws n e in
       let l = length-append p.before (p.word ∷ p.after) in
       (omega (arith, p.number), omega (arith, p.number, ap length p.split))
 
   -- 0 stands for "never", and for nothing else
-  pub never_number : (c : Car) (ws : List ℕ) → passed_of mark c ws ≡ Never → event_number (passed_of mark c ws) ≡ 0
+  pub never_number : (c : Car) (ws : List ℕ) → passed_of mark c ws ≡ None → event_number (passed_of mark c ws) ≡ 0
   unfolding event_number
   never_number c ws e = rw e
 
-  pub number_never : (c : Car) (ws : List ℕ) → event_number (passed_of mark c ws) ≡ 0 → passed_of mark c ws ≡ Never
+  pub number_never : (c : Car) (ws : List ℕ) → event_number (passed_of mark c ws) ≡ 0 → passed_of mark c ws ≡ None
   unfolding event_number
   number_never c ws = go (passed_of mark c ws) refl
     where
-      go : (q : Passed) → passed_of mark c ws ≡ q → event_number q ≡ 0 → q ≡ Never
-      go (At n) e z = absurd (omega (arith, (event_number_lem c ws n e).0))
-      go Never e z = refl
+      go : (q : Passed) → passed_of mark c ws ≡ q → event_number q ≡ 0 → q ≡ None
+      go (Some n) e z = absurd (omega (arith, (event_number_lem c ws n e).0))
+      go None e z = refl
 
 -- ---- a mark of 0 is never passed
-pub never_0 : (c : Car) (ws : List ℕ) → passed_of 0 c ws ≡ Never
+pub never_0 : (c : Car) (ws : List ℕ) → passed_of 0 c ws ≡ None
 never_0 c ws = exactly_never 0 c ws (λ us w vs e. passes_0 (driven c us) w)
 
 -- ---- the seconds
@@ -293,7 +291,7 @@ module _ (mark : ℕ) (high : speed_ceiling < mark) where
   under : (c : Car) (w : ℕ) → good_of c ≡ true → leb mark (step_of c w).car.speed ≡ false
   under c w g = lt-leb mark _ (omega (arith, (good _ (step_good c w g)).ranges.speed))
 
-  pub never_above : (c : Car) (ws : List ℕ) → good_of c ≡ true → passed_of mark c ws ≡ Never
+  pub never_above : (c : Car) (ws : List ℕ) → good_of c ≡ true → passed_of mark c ws ≡ None
   unfolding passes
   never_above c ws g = exactly_never mark c ws
       (λ us w vs e. and_right (accepted_tick (driven c us) w) _ (and_right (ltb (driven c us).speed mark) _ (under (driven c us) w (driven_good c us g))))
@@ -310,8 +308,8 @@ module _ (mark : ℕ) (high : speed_ceiling < mark) where
 
 -- ---- the calls, from a car that no accepted record gives
 pub bad_car : (mark : ℕ) (c : Car) (ws : List ℕ) → good_of c ≡ false
-    → (search_of mark c ws ≡ record { passed = Never; refusal = 18 })
+    → (search_of mark c ws ≡ record { passed = None; refusal = 18 })
     × (count_of mark c ws ≡ record { car = c; seconds = 0; refusal = 18 })
-    × (mark_of mark c ws ≡ record { car = c; passed = Never; seconds = 0; refusal = 18 })
+    × (mark_of mark c ws ≡ record { car = c; passed = None; seconds = 0; refusal = 18 })
 unfolding search_of count_of mark_of
 bad_car mark c ws b = (pick_false _ _ _ b, pick_false _ _ _ b, pick_false _ _ _ b)

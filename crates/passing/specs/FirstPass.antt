@@ -1,13 +1,12 @@
 -- What the two answers about a mark say, in the words of document 02, §5, of every car, list of words and mark.
 -- Positions in a list are said by splits: `ws ≡ us ++ w ∷ vs` says that w is event `length us + 1` of ws, and `driven c us` is the car that it meets.
 -- Assumes nothing.
-use Rattle.std.specs.Prelude.{true, false, ◌≡◌, ℕ, ◌+◌, ◌≤◌, ◌<◌, length}
+use Rattle.std.specs.Prelude.{true, false, ◌≡◌, ℕ, ◌+◌, ◌≤◌, ◌<◌, length, Some, None}
 use mathlib.Core.List.{List, [], ◌∷◌, ◌++◌, Memᴰ}
 use Rattle.car.specs.declared.Car.{Car}
 use Rattle.car.specs.Drive.{step_of, accepted_tick}
 use Rattle.car.specs.Lesson.{driven}
 use Rattle.car.specs.Mark.{passes, searched, found}
-use Rattle.passing.specs.declared.Passed.TheVariants.{At, Never}
 use Rattle.passing.specs.Passing.{passed_of}
 
 -- ---- "It says "never" exactly when no tick of the lesson does so"
@@ -33,8 +32,8 @@ pub record PassesAt (mark : ℕ) (c : Car) (ws : List ℕ) (n : ℕ) : Type 0 wh
 pub record Searched (mark : ℕ) (c : Car) (ws : List ℕ) : Type 0 where
   pub rest : List ℕ
   pub split : ws ≡ searched mark c ws ++ rest
-  pub stopped : found mark c ws ≡ true → passed_of mark c ws ≡ At (length (searched mark c ws))
-  pub never : found mark c ws ≡ false → passed_of mark c ws ≡ Never
+  pub stopped : found mark c ws ≡ true → passed_of mark c ws ≡ Some (length (searched mark c ws))
+  pub never : found mark c ws ≡ false → passed_of mark c ws ≡ None
   pub whole : found mark c ws ≡ false → searched mark c ws ≡ ws
 
 -- ---- "the seconds of that lesson that ended at or above it": event k of ws is an accepted tick, and v is at the mark or above after it

@@ -1,202 +1,128 @@
 // The event that passed a mark, and the seconds at or above it (document 02, §5), of a lent lesson from a car handed in. The words are driven part
-// by part, since nothing is lent for their answers; the car is carried as its record.
+// by part, since nothing is lent for their answers.
 #![tactic(auto, using(kit::specs::Pick::picks))]
 
-ghost use Rattle.std.specs.Prelude.{◌≡◌, ◌+◌, ◌≤◌, ◌<◌};
+ghost use Rattle.std.specs.Prelude.{true, ◌≡◌};
 ghost use Rattle.kit.specs.Answer.{gives};
-ghost use Rattle.car.specs.Lesson.{driven};
-ghost use Rattle.car.specs.Mark.{seconds_of, searched};
-ghost use Rattle.record.specs.Layout.{packed, unpacked};
-ghost use Rattle.record.specs.Record.{read_of};
-ghost use Rattle.passing.specs.Passing.{search_of, count_of, mark_of};
-ghost use Rattle.passing.specs.PassingShape.{find_of, behind_of, car_of};
+ghost use Rattle.event.specs.Refusal.{answer};
+ghost use Rattle.car.specs.Good.{good_of};
+ghost use Rattle.passing.specs.Passing.{search_answer, search_of, count_answer, count_of, mark_answer, mark_of};
+ghost use Rattle.passing.specs.PassingShape.{find_of};
 
 use car::Car;
-use record::Reading;
+use event::Refusal;
 
-// The number of the event that passed the mark, counted from 1, refused ones too; or never.
-#[derive(Clone, Copy)]
-pub enum Passed {
-    At(usize),
-    Never,
-}
-
-// The event that passed the mark, and the refusal, 0 or 18.
-#[derive(Clone, Copy)]
-pub struct First {
-    pub passed: Passed,
-    pub refusal: u32,
-}
-
-// The seconds that ended at or above the mark, the car behind the lesson, and the refusal, 0 or 18.
+// The seconds that ended at or above the mark, and the car behind the lesson.
 #[derive(Clone, Copy)]
 pub struct Counted {
     pub car: Car,
     pub seconds: usize,
-    pub refusal: u32,
 }
 
-// Both.
+// The same with the number of the event that passed the mark.
 #[derive(Clone, Copy)]
 pub struct Marked {
     pub car: Car,
-    pub passed: Passed,
+    pub passed: Option<usize>,
     pub seconds: usize,
-    pub refusal: u32,
 }
 
-// What a search gives: the number of its find, and the seconds up to it.
+// What a search gives: the number of its find, the seconds up to it, and the car right after it, or behind the lesson.
 #[derive(Clone, Copy)]
 struct Find {
-    passed: Passed,
+    car: Car,
+    passed: Option<usize>,
     seconds: usize,
 }
 
 // So many words are driven at a time.
 const PART: usize = 1024;
 
-// Where the part that starts at an index ends.
-fn part_end(at: usize, end: usize) -> usize
-    requires { at < end }
-    ensures { (at < result) × (result ≤ end) × (result ≤ at + 1024) }
-{
-    if end - at < PART {
-        return end;
-    }
-    at + PART
-}
-
-// The first event that passes the mark, and the seconds up to it, or all. No word behind it is driven: the record becomes that of the car right
-// after it, or of the car behind the lesson.
-fn seek(record: &mut [u32], words: &[u32], mark: u32) -> Find
-    requires { read_of «record».old ≡ gives (unpacked «record».old) }
-    ensures { (result ≡ find_of mark (unpacked «record».old) words.now) × («record».new ≡ packed (driven (unpacked «record».old) (searched mark (unpacked «record».old) words.now))) }
+// The first event that passes the mark, and the seconds up to it, or all, of a good car's lesson. No word behind it is driven.
+fn seek(first: Car, words: &[u32], mark: u32) -> Result<Find, Refusal>
+    requires { good_of first ≡ true }
+    ensures { answer result ≡ gives (find_of mark first words.now) }
 {
     let mut answers = [0; PART];
+    let mut car = first;
     let mut seconds = 0;
-    let mut at = 0;
-    loop {
-        if at == words.len() {
-            break Find {
-                passed: Passed::Never,
-                seconds: seconds,
-            };
-        }
-        let end = part_end(at, words.len());
-        let run = record::run(record, &words[at..end], &mut answers, mark, mark);
-        seconds += run.seconds;
-        if run.found {
-            break Find {
-                passed: Passed::At(at + run.accepted + run.refused),
-                seconds: seconds,
-            };
-        }
-        at = end;
-    }
-}
-
-// The seconds of a lesson that end at or above the mark; the record becomes that of the car behind it.
-fn count(record: &mut [u32], words: &[u32], mark: u32) -> usize
-    requires { read_of «record».old ≡ gives (unpacked «record».old) }
-    ensures { (result ≡ seconds_of mark (unpacked «record».old) words.now) × («record».new ≡ packed (driven (unpacked «record».old) words.now)) }
-{
-    let mut answers = [0; PART];
-    let mut seconds = 0;
-    let mut at = 0;
-    while at < words.len() {
-        let end = part_end(at, words.len());
-        let run = record::run(record, &words[at..end], &mut answers, 0, mark);
-        seconds += run.seconds;
-        at = end;
-    }
-    seconds
-}
-
-// The index of the first word that a search has not driven.
-#[tactic(auto, using(kit::specs::Pick::picks), unfolding(crate::specs::PassingShape::behind_of))]
-fn behind(passed: Passed, end: usize) -> usize
-    ensures { result ≡ behind_of passed end }
-{
-    match passed {
-        Passed::At(number) => number,
-        Passed::Never => end,
-    }
-}
-
-// The car of a record; the other one where there is none.
-#[tactic(auto, using(kit::specs::Pick::picks), unfolding(crate::specs::PassingShape::car_of))]
-fn car_of(record: [u32; 12], other: Car) -> Car
-    ensures { result ≡ car_of (read_of «record») other }
-{
-    match record::read(record) {
-        Reading::Loaded(car) => car,
-        Reading::Refused(_) => other,
-    }
-}
-
-// The event that passed the mark. 18 for a car that is not good, and never.
-pub fn search(car: Car, words: &[u32], mark: u32) -> First
-    ensures { result ≡ search_of mark car words.now }
-{
-    let first = record::write(car);
-    if first.refusal != 0 {
-        return First {
-            passed: Passed::Never,
-            refusal: first.refusal,
+    let mut before = 0;
+    let mut parts = words.chunks(PART);
+    let passed = loop {
+        let Some(part) = parts.next() else {
+            break None;
         };
-    }
-    let mut record = first.words;
-    let find = seek(&mut record, words, mark);
-    let passed = find.passed;
-    First {
+        let ran = car.run(part, &mut answers, mark, mark)?;
+        seconds += ran.seconds;
+        car = ran.car;
+        if ran.found {
+            break Some(before + ran.accepted + ran.refused);
+        }
+        before += part.len();
+    };
+    Ok(Find {
+        car: car,
         passed: passed,
-        refusal: 0,
-    }
-}
-
-// The seconds that ended at or above the mark. 18 for a car that is not good, and none.
-pub fn seconds(car: Car, words: &[u32], mark: u32) -> Counted
-    ensures { result ≡ count_of mark car words.now }
-{
-    let first = record::write(car);
-    if first.refusal != 0 {
-        return Counted {
-            car: car,
-            seconds: 0,
-            refusal: first.refusal,
-        };
-    }
-    let mut record = first.words;
-    let seconds = count(&mut record, words, mark);
-    Counted {
-        car: car_of(record, car),
         seconds: seconds,
-        refusal: 0,
-    }
+    })
 }
 
-// Both, in one pass: the search, then the seconds of the words behind its find. 18 for a car that is not good, never and none.
-pub fn of_lesson(car: Car, words: &[u32], mark: u32) -> Marked
-    ensures { result ≡ mark_of mark car words.now }
+// The seconds of a good car's lesson that end at or above the mark.
+fn count(first: Car, words: &[u32], mark: u32) -> Result<Counted, Refusal>
+    requires { good_of first ≡ true }
+    ensures { count_answer first result ≡ count_of mark first words.now }
 {
-    let first = record::write(car);
-    if first.refusal != 0 {
-        return Marked {
-            car: car,
-            passed: Passed::Never,
-            seconds: 0,
-            refusal: first.refusal,
-        };
+    let mut answers = [0; PART];
+    let mut car = first;
+    let mut seconds = 0;
+    for part in words.chunks(PART) {
+        let ran = car.run(part, &mut answers, 0, mark)?;
+        seconds += ran.seconds;
+        car = ran.car;
     }
-    let mut record = first.words;
-    let find = seek(&mut record, words, mark);
-    let passed = find.passed;
-    let from = behind(passed, words.len());
-    let rest = count(&mut record, &words[from..], mark);
-    Marked {
-        car: car_of(record, car),
-        passed: passed,
-        seconds: find.seconds + rest,
-        refusal: 0,
+    Ok(Counted {
+        car: car,
+        seconds: seconds,
+    })
+}
+
+// The number of the event that passed the mark, counted from 1, refused ones too; none where no event did. 18 for a car that is not good.
+#[tactic(auto, using(kit::specs::Pick::picks), unfolding(crate::specs::Passing::search_of, crate::specs::PassingShape::find_of))]
+pub fn search(car: Car, words: &[u32], mark: u32) -> Result<Option<usize>, Refusal>
+    ensures { search_answer result ≡ search_of mark car words.now }
+{
+    if !car.good() {
+        return Err(Refusal::NotAccepted);
     }
+    let find = seek(car, words, mark)?;
+    Ok(find.passed)
+}
+
+// The seconds that ended at or above the mark. 18 for a car that is not good.
+#[tactic(auto, using(kit::specs::Pick::picks), unfolding(crate::specs::Passing::count_of))]
+pub fn seconds(car: Car, words: &[u32], mark: u32) -> Result<Counted, Refusal>
+    ensures { count_answer car result ≡ count_of mark car words.now }
+{
+    if !car.good() {
+        return Err(Refusal::NotAccepted);
+    }
+    count(car, words, mark)
+}
+
+// Both, in one pass: the search, then the seconds of the words behind its find. 18 for a car that is not good.
+#[tactic(auto, using(kit::specs::Pick::picks, crate::proofs::Parts::from_within, crate::proofs::Parts::good_behind), unfolding(crate::specs::Passing::mark_of))]
+pub fn of_lesson(car: Car, words: &[u32], mark: u32) -> Result<Marked, Refusal>
+    ensures { mark_answer car result ≡ mark_of mark car words.now }
+{
+    if !car.good() {
+        return Err(Refusal::NotAccepted);
+    }
+    let find = seek(car, words, mark)?;
+    let from = find.passed.unwrap_or(words.len());
+    let rest = count(find.car, &words[from..], mark)?;
+    Ok(Marked {
+        car: rest.car,
+        passed: find.passed,
+        seconds: find.seconds + rest.seconds,
+    })
 }

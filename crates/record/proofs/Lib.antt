@@ -1,5 +1,4 @@
 pub mod Answers
-pub mod Copying
 pub mod LayoutLaws
 pub mod RecordLaws
 pub mod RecordLessonLaws

@@ -10,14 +10,14 @@ use Rattle.car.specs.Car.{ceiling_of}
 use Rattle.car.specs.Good.{good_of}
 use Rattle.car.proofs.GoodLaws.{good, good_test}
 use Rattle.car.proofs.KeptLaws.{keeping, keeping_good}
-use Rattle.record.specs.declared.Written.{Written}
+use Rattle.record.specs.Record.{Written}
 use Rattle.record.specs.Layout.{packed, unpacked}
 use Rattle.record.proofs.LayoutLaws.{good_fits, unpacked_packed, packed_unpacked, packed_marked, packed_length}
 use Rattle.record.specs.Record.{same_words, write_of, read_of, saved_refusal, saved_buffer}
 use Rattle.record.specs.Accepted.{Accepted}
 
 -- ---- the comparison of words
-same_self : (a : List ℕ) → same_words a a ≡ true
+pub same_self : (a : List ℕ) → same_words a a ≡ true
 unfolding same_words
 same_self [] = refl
 same_self (x ∷ xs) = and_both _ _ (eq-eqb x x refl) (same_self xs)

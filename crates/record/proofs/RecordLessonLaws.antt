@@ -5,14 +5,12 @@ use mathlib.Core.List.{List, ◌++◌, append-nil}
 use Rattle.std.proofs.Common.{sym, ap, ◌∙◌, arith}
 use Rattle.std.proofs.Math.ListN.{length, drop_of_length-le}
 use Rattle.kit.specs.Answer.{Answer, gives, refused}
-use Rattle.kit.specs.Pick.{pick, pick_true, pick_case}
+use Rattle.kit.specs.Pick.{pick, pick_true, pick_false, pick_case}
 use Rattle.car.specs.declared.Car.{Car}
-use Rattle.car.specs.declared.lesson.Ran.{Ran}
-use Rattle.car.specs.declared.lesson.Taught.{Taught}
+use Rattle.car.specs.Mark.{Ran, searched, ran_of, unran, run_of, run_after}
+use Rattle.car.specs.Lesson.{Taught, answers_after}
 use Rattle.car.specs.Good.{good_of}
-use Rattle.car.specs.Lesson.{answers_after}
 use Rattle.car.proofs.LessonLaws.{driven_good}
-use Rattle.car.specs.Mark.{searched, ran_of, unran, run_of, run_after}
 use Rattle.car.proofs.MarkLaws.{run_whole, after_whole}
 use Rattle.record.specs.Layout.{packed, unpacked}
 use Rattle.record.specs.LayoutShape.{Fits}
@@ -73,6 +71,44 @@ module _ (halt mark : ℕ) (c : Car) (events answers : List ℕ) where
         drop_of_length-le words {i = 12} (omega arith),
         append-nil (packed (run_of halt mark c events answers).car),
       )
+
+  run_bad : good_of c ≡ false → run_of halt mark c events answers ≡ unran c 18
+  unfolding run_of
+  run_bad g = pick_false _ _ _ g
+
+  after_bad : good_of c ≡ false → run_after halt c events answers ≡ answers
+  unfolding run_after
+  after_bad g = pick_false _ _ _ g
+
+  -- by what the run gave: refused, all is kept; else the record of the car afterwards stands in the words' place
+  module _ (words : List ℕ) (n : ℕ) (p : packed c ≡ words) where
+    pub left_kept : ◌≡◌ {A = Ran} (record { car = c; accepted = 0; refused = 0; seconds = 0; found = false; refusal = n }) (run_of halt mark c events answers)
+        → ◌≡◌ {A = RunLeft}
+        (record { refusal = n; words = words; answers = run_after halt c events answers; accepted = 0; refused = 0; seconds = 0; found = false })
+        (ran_left halt mark c words events answers)
+    unfolding ran_left run_left unran pick
+    left_kept e = go (good_of c) refl
+      where
+        go : (g : Bool) → good_of c ≡ g
+            → ◌≡◌ {A = RunLeft}
+            (record { refusal = n; words = words; answers = run_after halt c events answers; accepted = 0; refused = 0; seconds = 0; found = false })
+            (run_left halt mark words (pick g (gives c) (refused 18)) events answers)
+        go true h = rw (sym e, p)
+        go false h = let r : n ≡ 18 = ap (λ (t : Ran). t.refusal) (e ∙ run_bad h) in rw (r, after_bad h)
+
+  module _ (t : Ran) (e : t ≡ run_of halt mark c events answers) (z : t.refusal ≡ 0) where
+    known : (run_of halt mark c events answers).refusal ≡ 18 → ⊥
+    known h = omega (arith, z, ap (λ (x : Ran). x.refusal) e, h)
+
+    pub ran_fits : Fits t.car
+    ran_fits = rw e (run_fits known)
+
+    pub left_ran : (words : List ℕ)
+        → ◌≡◌ {A = RunLeft}
+        (record { refusal = 0; words = packed t.car; answers = run_after halt c events answers; accepted = t.accepted; refused = t.refused; seconds = t.seconds; found = t.found })
+        (ran_left halt mark c words events answers)
+    unfolding ran_left run_left
+    left_ran words = rw (sym z, e, pick_true (good_of c) (gives c) (refused 18) (run_known known))
 
 -- ---- the record that words are
 -- words that are those of the car which they give: whether it is accepted goes by the car

@@ -1,13 +1,12 @@
 -- A record written and read: document 01, "The record", and refusals 18 and 20.
 -- Assumes nothing.
-use Rattle.std.specs.Prelude.{Bool, true, false, ◌&&◌, List, [], ◌∷◌, ◌++◌, ℕ, eqb, ltb, length, drop, replicate}
+use Rattle.std.specs.Prelude.{Bool, Result, Ok, Err, true, false, ◌&&◌, List, [], ◌∷◌, ◌++◌, ℕ, eqb, ltb, length, drop, replicate}
 use Rattle.kit.specs.Answer.{Answer, gives, refused}
 use Rattle.kit.specs.Pick.{pick}
+use Rattle.event.specs.declared.refusal.Refusal.{Refusal}
+use Rattle.event.specs.Refusal.{refusal_number}
 use Rattle.car.specs.declared.Car.{Car}
 use Rattle.car.specs.Good.{good_of}
-use Rattle.record.specs.declared.Written.{Written}
-use Rattle.record.specs.declared.Reading.{Reading}
-use Rattle.record.specs.declared.Reading.TheVariants as reading
 use Rattle.record.specs.Layout.{packed, unpacked}
 
 -- the same words in the same places
@@ -17,14 +16,19 @@ same_words [] (b ∷ bs) = false
 same_words (a ∷ as') [] = false
 same_words (a ∷ as') (b ∷ bs) = eqb a b && same_words as' bs
 
+-- the refusal or 0, and the words
+pub record Written : Type 0 where
+  pub refusal : ℕ
+  pub words : List ℕ
+
+-- what a result says: the words, or the refusal and zeros
+abbrev pub written_answer : Result (List ℕ) Refusal → Written
+written_answer (Ok words) = record { refusal = 0; words = words }
+written_answer (Err r) = record { refusal = refusal_number r; words = replicate 12 0 }
+
 -- 18: "a car handed in that no accepted record gives (.. an array answer all 0)"
 unfoldable pub write_of : Car → Written
 write_of c = pick (good_of c) (record { refusal = 0; words = packed c }) (record { refusal = 18; words = replicate 12 0 })
-
--- what a reading says: the car, or 18
-abbrev pub reading_answer : Reading → Answer Car
-reading_answer (reading.Loaded c) = gives c
-reading_answer (reading.Refused n) = refused n
 
 -- the car that the words' fields say, where it is good and these are its words; `Accepted` says the same in the document's words.
 -- 18: "a record not of 12 words or not accepted (no car)"

@@ -1,12 +1,16 @@
 -- A lesson of the car whose record lent words are: document 01, "A lesson", with refusals 18 and 19.
 -- Assumes nothing.
-use Rattle.std.specs.Prelude.{Bool, false, List, ℕ}
+use Rattle.std.specs.Prelude.{Bool, false, Result, Ok, Err, List, ℕ}
 use Rattle.kit.specs.Answer.{Answer, gives, refused}
 use Rattle.kit.specs.Pick.{pick}
 use Rattle.car.specs.declared.Car.{Car}
 use Rattle.car.specs.Good.{good_of}
 use Rattle.car.specs.Lesson.{lesson_of, answers_after}
 use Rattle.car.specs.Mark.{run_of, run_after}
+use Rattle.event.specs.declared.refusal.Refusal.{Refusal}
+use Rattle.event.specs.Refusal.{refusal_number}
+use Rattle.record.specs.declared.Outcome.{Outcome}
+use Rattle.record.specs.declared.RunOutcome.{RunOutcome}
 use Rattle.record.specs.Layout.{packed}
 
 -- all that a lesson leaves: its refusal, the record's words, the answers, the counts
@@ -16,6 +20,11 @@ pub record LessonLeft : Type 0 where
   pub answers : List ℕ
   pub accepted : ℕ
   pub refused : ℕ
+
+-- what a result says, with the words and the answers behind it: refused, the counts are 0
+abbrev pub lesson_answer : Result Outcome Refusal → List ℕ → List ℕ → LessonLeft
+lesson_answer (Ok t) words answers = record { refusal = 0; words = words; answers = answers; accepted = t.accepted; refused = t.refused }
+lesson_answer (Err r) words answers = record { refusal = refusal_number r; words = words; answers = answers; accepted = 0; refused = 0 }
 
 -- of the car that was read, 18 or 19 or what its lesson gives; "car and buffers kept, counts 0" where none was
 unfoldable pub lesson_left : List ℕ → Answer Car → List ℕ → List ℕ → LessonLeft
@@ -38,6 +47,12 @@ pub record RunLeft : Type 0 where
   pub refused : ℕ
   pub seconds : ℕ
   pub found : Bool
+
+abbrev pub run_answer : Result RunOutcome Refusal → List ℕ → List ℕ → RunLeft
+run_answer (Ok t) words answers =
+    record { refusal = 0; words = words; answers = answers; accepted = t.accepted; refused = t.refused; seconds = t.seconds; found = t.found }
+run_answer (Err r) words answers =
+    record { refusal = refusal_number r; words = words; answers = answers; accepted = 0; refused = 0; seconds = 0; found = false }
 
 unfoldable pub run_left : ℕ → ℕ → List ℕ → Answer Car → List ℕ → List ℕ → RunLeft
 run_left halt mark words (gives c) events answers =

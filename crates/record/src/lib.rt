@@ -1,185 +1,126 @@
 // A car's record (document 01, "The record"): twelve words, written from a good car and read back.
 #![tactic(auto, using(kit::specs::Pick::picks))]
 
-ghost use Rattle.std.specs.Prelude.{false, ◌≡◌, ◌++◌, ◌≤◌, length, drop};
-ghost use Rattle.record.specs.Layout.{packed};
-ghost use Rattle.record.specs.LayoutShape.{Fits};
-ghost use Rattle.record.specs.Record.{reading_answer, read_of, write_of, saved_refusal, saved_buffer};
-ghost use Rattle.record.specs.RecordLesson.{LessonLeft, lesson_left, RunLeft, run_left, ran_left};
+ghost use Rattle.std.specs.Prelude.{◌≡◌};
+ghost use Rattle.event.specs.Refusal.{answer, number};
+ghost use Rattle.record.specs.Record.{written_answer, read_of, write_of, saved_refusal, saved_buffer};
+ghost use Rattle.record.specs.RecordLesson.{lesson_answer, lesson_left, run_answer, run_left};
 
 use car::Car;
-use event::refusal::{NOT_ACCEPTED, SHORT_RECORD};
+use car::lesson::Ran;
+use event::Refusal;
 
 mod layout;
-mod words;
 
-// What writing gives: the words of a good car, or the refusal and zeros.
-#[derive(Clone, Copy)]
-pub struct Written {
-    pub refusal: u32,
-    pub words: [u32; 12],
-}
-
-// What reading gives: the car, or the refusal.
-#[derive(Clone, Copy)]
-pub enum Reading {
-    Loaded(Car),
-    Refused(u32),
-}
-
-pub fn write(car: Car) -> Written
-    ensures { result ≡ write_of car }
+// The words of a good car. 18 for any other.
+pub fn write(car: Car) -> Result<[u32; 12], Refusal>
+    ensures { written_answer result ≡ write_of car }
 {
-    if car.good() {
-        return Written {
-            refusal: 0,
-            words: layout::pack(car),
-        };
+    if !car.good() {
+        return Err(Refusal::NotAccepted);
     }
-    Written {
-        refusal: NOT_ACCEPTED,
-        words: [0; 12],
-    }
+    Ok(layout::pack(car))
 }
 
 // The car that the words' fields say, where it is good and these are its words.
-pub fn read(words: [u32; 12]) -> Reading
-    ensures { reading_answer result ≡ read_of words }
+pub fn read(words: [u32; 12]) -> Result<Car, Refusal>
+    ensures { answer result ≡ read_of words }
 {
     let car = layout::unpack(words);
-    if !car.good() {
-        return Reading::Refused(NOT_ACCEPTED);
+    if !car.good() || layout::pack(car) != words {
+        return Err(Refusal::NotAccepted);
     }
-    if words::same(layout::pack(car), words) {
-        return Reading::Loaded(car);
-    }
-    Reading::Refused(NOT_ACCEPTED)
+    Ok(car)
 }
 
 // The record in lent words, of which there have to be twelve.
-pub fn read_from(words: &[u32]) -> Reading
-    ensures { reading_answer result ≡ read_of words.now }
+pub fn read_from(words: &[u32]) -> Result<Car, Refusal>
+    ensures { answer result ≡ read_of words.now }
 {
-    if words.len() != 12 {
-        return Reading::Refused(NOT_ACCEPTED);
+    match <[u32; 12]>::try_from(words) {
+        Ok(record) => read(record),
+        Err(_) => Err(Refusal::NotAccepted),
     }
-    let mut array = [0; 12];
-    words::copy(words, &mut array);
-    read(array)
 }
 
-// The record into the first twelve words of a lent buffer: 0, or the refusal, and then the buffer is kept.
-pub fn write_into(car: Car, buffer: &mut [u32]) -> u32
-    ensures { (result ≡ saved_refusal car buffer.old) × (buffer.new ≡ saved_buffer car buffer.old) }
+// The record into the first twelve words of a lent buffer. Refused, the buffer is kept.
+pub fn write_into(car: Car, buffer: &mut [u32]) -> Result<(), Refusal>
+    ensures { (number result ≡ saved_refusal car buffer.old) × (buffer.new ≡ saved_buffer car buffer.old) }
 {
-    let written = write(car);
-    if written.refusal != 0 {
-        return written.refusal;
-    }
+    let words = write(car)?;
     if buffer.len() < 12 {
-        return SHORT_RECORD;
+        return Err(Refusal::ShortRecord);
     }
-    let words = written.words;
-    words::copy(&words, buffer);
-    0
+    buffer[..12].copy_from_slice(&words);
+    Ok(())
 }
 
-// The record into the first twelve words of a lent buffer that has them.
-fn save(car: Car, buffer: &mut [u32])
-    requires { Fits car × (12 ≤ length buffer.old) }
-    ensures { buffer.new ≡ packed car ++ drop 12 buffer.old }
-{
-    let words = layout::pack(car);
-    words::copy(&words, buffer);
-}
-
-// A lesson's refusal, 0, 18 or 19, and its counts.
-#[derive(Clone, Copy)]
+// A lesson's counts.
+#[derive(Clone, Copy, Debug, Default, PartialEq, Eq)]
 pub struct Outcome {
-    pub refusal: u32,
     pub accepted: usize,
     pub refused: usize,
 }
 
 // The same of a lesson that stops where a mark is passed, with the seconds that ended at or above a mark and whether one passed.
-#[derive(Clone, Copy)]
+#[derive(Clone, Copy, Debug, Default, PartialEq, Eq)]
 pub struct RunOutcome {
-    pub refusal: u32,
     pub accepted: usize,
     pub refused: usize,
     pub seconds: usize,
     pub found: bool,
 }
 
-fn no_car() -> RunOutcome
-    ensures { result ≡ record { refusal = 18; accepted = 0; refused = 0; seconds = 0; found = false } }
-{
-    RunOutcome {
-        refusal: NOT_ACCEPTED,
-        accepted: 0,
-        refused: 0,
-        seconds: 0,
-        found: false,
+impl From<Ran> for RunOutcome {
+    ghost from_gives = { λ ran outcome. outcome ≡ record { accepted = ran.accepted; refused = ran.refused; seconds = ran.seconds; found = ran.found } };
+
+    fn from(ran: Ran) -> RunOutcome {
+        RunOutcome {
+            accepted: ran.accepted,
+            refused: ran.refused,
+            seconds: ran.seconds,
+            found: ran.found,
+        }
     }
 }
 
-// A lesson of a car, whose record the words are: that of the car afterwards takes its place.
-fn teach(
-    car: Car,
-    words: &mut [u32],
-    events: &[u32],
-    answers: &mut [u32],
-    halt: u32,
-    mark: u32,
-) -> RunOutcome
-    requires { packed car ≡ words.old }
-    ensures { ◌≡◌ {A = RunLeft} (record { refusal = result.refusal; words = words.new; answers = answers.new; accepted = result.accepted; refused = result.refused; seconds = result.seconds; found = result.found }) (ran_left halt mark car words.old events.now answers.old) }
-{
-    let ran = car.run(events, answers, halt, mark);
-    if ran.refusal == NOT_ACCEPTED {
-        return no_car();
-    }
-    save(ran.car, words);
-    RunOutcome {
-        refusal: ran.refusal,
-        accepted: ran.accepted,
-        refused: ran.refused,
-        seconds: ran.seconds,
-        found: ran.found,
+impl From<RunOutcome> for Outcome {
+    ghost from_gives = { λ run outcome. outcome ≡ record { accepted = run.accepted; refused = run.refused } };
+
+    fn from(run: RunOutcome) -> Outcome {
+        Outcome {
+            accepted: run.accepted,
+            refused: run.refused,
+        }
     }
 }
 
 // A lesson of the car whose record lent words are, up to the first word that passes the mark `halt` (0: nowhere), with the seconds that ended at
-// `mark` or above. The car's own test is the lesson's, and made once.
+// `mark` or above: the record of the car afterwards takes its place. The car's own test is the lesson's, and made once.
 pub fn run(
     words: &mut [u32],
     events: &[u32],
     answers: &mut [u32],
     halt: u32,
     mark: u32,
-) -> RunOutcome
-    ensures { ◌≡◌ {A = RunLeft} (record { refusal = result.refusal; words = words.new; answers = answers.new; accepted = result.accepted; refused = result.refused; seconds = result.seconds; found = result.found }) (run_left halt mark words.old (read_of words.old) events.now answers.old) }
+) -> Result<RunOutcome, Refusal>
+    ensures { run_answer result words.new answers.new ≡ run_left halt mark words.old (read_of words.old) events.now answers.old }
 {
-    if words.len() != 12 {
-        return no_car();
+    let Ok(record) = <[u32; 12]>::try_from(&*words) else {
+        return Err(Refusal::NotAccepted);
+    };
+    let car = layout::unpack(record);
+    if layout::pack(car) != record {
+        return Err(Refusal::NotAccepted);
     }
-    let mut array = [0; 12];
-    words::copy(words, &mut array);
-    let car = layout::unpack(array);
-    if words::same(layout::pack(car), array) {
-        return teach(car, words, events, answers, halt, mark);
-    }
-    no_car()
+    let ran = car.run(events, answers, halt, mark)?;
+    words.copy_from_slice(&layout::pack(ran.car));
+    Ok(RunOutcome::from(ran))
 }
 
 // A lesson of the car whose record lent words are.
-pub fn lesson(words: &mut [u32], events: &[u32], answers: &mut [u32]) -> Outcome
-    ensures { ◌≡◌ {A = LessonLeft} (record { refusal = result.refusal; words = words.new; answers = answers.new; accepted = result.accepted; refused = result.refused }) (lesson_left words.old (read_of words.old) events.now answers.old) }
+pub fn lesson(words: &mut [u32], events: &[u32], answers: &mut [u32]) -> Result<Outcome, Refusal>
+    ensures { lesson_answer result words.new answers.new ≡ lesson_left words.old (read_of words.old) events.now answers.old }
 {
-    let run = run(words, events, answers, 0, 0);
-    Outcome {
-        refusal: run.refusal,
-        accepted: run.accepted,
-        refused: run.refused,
-    }
+    Ok(Outcome::from(run(words, events, answers, 0, 0)?))
 }

@@ -3,44 +3,19 @@
 // again, as an array and into a buffer of thirteen words, has the same words and the buffer's last word is kept, else 0.
 #![tactic(auto)]
 
-ghost use Rattle.std.specs.Prelude.{◌≤◌, length};
-
 use car::Car;
-use record::Reading;
 
 // What the buffer holds before a record is written into it.
 const UNUSED: u32 = 7;
 
-fn read(words: [u32; 13], count: u32) -> Reading {
-    match count {
-        11 => record::read_from(&words[0..11]),
-        12 => record::read_from(&words[0..12]),
-        _ => record::read_from(&words),
-    }
-}
-
-// The first twelve words are the same.
-fn same(a: &[u32], b: &[u32]) -> bool
-    requires { (12 ≤ length a.now) × (12 ≤ length b.now) }
-{
-    for i in 0..12 {
-        if a[i] != b[i] {
-            return false;
-        }
-    }
-    true
-}
-
 fn array_same(car: Car, words: [u32; 13]) -> bool {
-    let written = record::write(car);
-    let again = written.words;
-    (written.refusal == 0) & same(&again, &words)
+    record::write(car).is_ok_and(|again| &again[..] == &words[..12])
 }
 
 fn buffer_same(car: Car, words: [u32; 13]) -> bool {
     let mut buffer = [UNUSED; 13];
-    let refusal = record::write_into(car, &mut buffer);
-    (refusal == 0) & same(&buffer, &words) & (buffer[12] == UNUSED)
+    let written = record::write_into(car, &mut buffer);
+    written.is_ok() & (&buffer[..12] == &words[..12]) & (buffer[12] == UNUSED)
 }
 
 fn loaded(out: &mut [u8], at: usize, car: Car, words: [u32; 13]) -> usize {
@@ -50,38 +25,32 @@ fn loaded(out: &mut [u8], at: usize, car: Car, words: [u32; 13]) -> usize {
     tester::last(out, end, event::bit(same))
 }
 
-fn line(out: &mut [u8], at: usize, count: u32, words: [u32; 13]) -> usize {
-    match read(words, count) {
-        Reading::Loaded(car) => loaded(out, at, car, words),
-        Reading::Refused(n) => tester::last(out, at, n),
+fn line(out: &mut [u8], at: usize, size: usize, words: [u32; 13]) -> usize {
+    match record::read_from(words.get(..size).unwrap_or(&words)) {
+        Ok(car) => loaded(out, at, car, words),
+        Err(refusal) => tester::last(out, at, u32::from(refusal)),
     }
 }
 
-// The line of the record at an index of the input.
-fn record_line(out: &mut [u8], at: usize, input: &[u32], from: usize) -> usize {
-    let mut words = [0; 13];
-    tester::fill(&mut words, input, tester::past(input, from, 1));
-    line(out, at, tester::word(input, from), words)
-}
-
-fn lines(out: &mut [u8], input: &[u32]) -> usize {
+fn lines(input: &[u32], out: &mut [u8]) -> usize {
     let mut end = 0;
-    let mut from = 0;
-    while from < input.len() {
-        end = record_line(out, end, input, from);
-        from = tester::past(input, from, 14);
+    for record in input.chunks(14) {
+        let mut words = [0; 13];
+        tester::fill(&mut words, record, 1);
+        end = line(out, end, tester::size(record, 0, 13), words);
     }
     end
 }
 
 fn main(rt: HostRuntime) {
     let mut words = [0; 16384];
-    let input = tester::read_words(&rt, &mut words, b"record_words: standard input");
-    if input.failed {
-        return;
-    }
     let mut out = [0; 131072];
-    let count = input.count;
-    let end = lines(&mut out, &words[0..count]);
-    tester::write(&rt, &out, end, b"record_words: standard output");
+    tester::run(
+        &rt,
+        &mut words,
+        &mut out,
+        b"record_words: standard input",
+        b"record_words: standard output",
+        lines,
+    );
 }

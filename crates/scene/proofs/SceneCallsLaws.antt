@@ -1,7 +1,6 @@
 -- Demand 3 holds of every list of calls with sightings among them.
 -- Assumes nothing.
-use Rattle.std.specs.Prelude.{true, List, [], ◌∷◌, ◌≡◌, refl, ℕ}
-use Rattle.std.proofs.Math.Option.{Option, some, none}
+use Rattle.std.specs.Prelude.{true, List, [], ◌∷◌, ◌≡◌, refl, ℕ, Option, Some, None}
 use Rattle.std.proofs.Common.{sym, ◌∙◌}
 use Rattle.std.proofs.Math.Path.{ap}
 use Rattle.kit.specs.Answer.{Answer, gives, refused}
@@ -21,8 +20,8 @@ use Rattle.scene.specs.SceneCalls.{SceneCall, call, see, heard_sight, heard, hea
 -- ---- one call, then lists
 see_ends : (c : Car) (s : Sighting) (a : Answer (Option ℕ)) → seen_word s ≡ a → (see_of c s).car ≡ ends c (heard_sight a)
 unfolding heard_sight ends outcome car_of
-see_ends c s (gives (some w)) h = rw (see_word c s w h)
-see_ends c s (gives none) h = rw (see_none c s h) (kept_car c _ _)
+see_ends c s (gives (Some w)) h = rw (see_word c s w h)
+see_ends c s (gives None) h = rw (see_none c s h) (kept_car c _ _)
 see_ends c s (refused n) h = rw (see_refused c s n h) (kept_car c _ _)
 
 call_ends : (c : Car) (x : SceneCall) → car_after c x ≡ ends c (heard x)

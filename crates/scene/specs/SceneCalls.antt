@@ -1,8 +1,7 @@
 -- Lists of calls with sightings among them, as demand 3's calls see them: a sighting with an event is the call of its word, one with none, for a fault or a
 -- refusal, is no call.
 -- Assumes nothing.
-use Rattle.std.specs.Prelude.{true, false, List, [], ◌∷◌, ◌++◌, ◌≡◌, ℕ}
-use Rattle.std.proofs.Math.Option.{Option, some, none}
+use Rattle.std.specs.Prelude.{true, false, List, [], ◌∷◌, ◌++◌, ◌≡◌, ℕ, Option, Some, None}
 use Rattle.kit.specs.Answer.{Answer, gives, refused}
 use Rattle.car.specs.declared.Car.{Car}
 use Rattle.car.specs.Drive.{step_of}
@@ -17,8 +16,8 @@ pub data SceneCall : Type 0 where
   see : Sighting → SceneCall
 
 unfoldable pub heard_sight : Answer (Option ℕ) → List Call
-heard_sight (gives (some w)) = word w ∷ []
-heard_sight (gives none) = []
+heard_sight (gives (Some w)) = word w ∷ []
+heard_sight (gives None) = []
 heard_sight (refused n) = []
 
 unfoldable pub heard : SceneCall → List Call
@@ -42,10 +41,10 @@ pub record Seeing (c : Car) (xs : List SceneCall) : Type 0 where
   -- after each call the car is that which demand 3's calls give
   pub car : (ys zs : List SceneCall) → xs ≡ ys ++ zs → scene_ends c ys ≡ ends c (heard_all ys)
   -- a sighting with an event gives what the checks 1 to 16 and the rules give of its word
-  pub event : (ys : List SceneCall) (s : Sighting) (zs : List SceneCall) (w : ℕ) → xs ≡ ys ++ see s ∷ zs → seen_word s ≡ gives (some w)
+  pub event : (ys : List SceneCall) (s : Sighting) (zs : List SceneCall) (w : ℕ) → xs ≡ ys ++ see s ∷ zs → seen_word s ≡ gives (Some w)
       → see_of (scene_ends c ys) s ≡ told_of (step_of (scene_ends c ys) w)
   -- a fault changes nothing and says so
-  pub fault : (ys : List SceneCall) (s : Sighting) (zs : List SceneCall) → xs ≡ ys ++ see s ∷ zs → seen_word s ≡ gives none
+  pub fault : (ys : List SceneCall) (s : Sighting) (zs : List SceneCall) → xs ≡ ys ++ see s ∷ zs → seen_word s ≡ gives None
       → see_of (scene_ends c ys) s ≡ record { car = scene_ends c ys; refusal = 0; fault = true }
   -- a sighting that is turned away changes nothing, and its number is 22 or 23: 18 is never given
   pub refusal : (ys : List SceneCall) (s : Sighting) (zs : List SceneCall) (n : ℕ) → xs ≡ ys ++ see s ∷ zs → seen_word s ≡ refused n

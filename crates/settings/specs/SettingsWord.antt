@@ -6,13 +6,6 @@ use Rattle.kit.specs.Pick.{pick}
 use Rattle.event.specs.Words.{kind_of, body_of}
 use Rattle.car.specs.declared.Car.{Car}
 use Rattle.car.specs.Car.{fresh_car, settings_of, Permitted, check17, fresh_of}
-use Rattle.settings.specs.declared.Writing.{Writing}
-use Rattle.settings.specs.declared.Writing.TheVariants.{Word, Refused}
-
--- what a writing says
-abbrev pub writing_answer : Writing → Answer ℕ
-writing_answer (Word w) = gives w
-writing_answer (Refused n) = refused n
 
 -- "kind 13 (bits 0-1 mode, bit 2 signs)"
 abbrev pub settings_kind : ℕ

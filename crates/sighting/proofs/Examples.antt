@@ -1,7 +1,6 @@
 -- Vehicles by the bits of their floats: metres, then km/h.
 -- Assumes nothing.
-use Rattle.std.proofs.Math.Option.{Option, some}
-use Rattle.std.specs.Prelude.{◌≡◌, refl, ℕ}
+use Rattle.std.specs.Prelude.{◌≡◌, refl, ℕ, Option, Some}
 use Rattle.std.specs.Float.{binary32}
 use Rattle.std.specs.Float.Ieee.{of_bits}
 use Rattle.kit.specs.Answer.{Answer, gives, refused}
@@ -17,7 +16,7 @@ abbrev seen : ℕ → ℕ → Answer (Option Event)
 seen metres kmh = seen_of (Vehicle (of_bits binary32 metres) (of_bits binary32 kmh))
 
 abbrev radar : ℕ → ℕ → Answer (Option Event)
-radar range speed = gives (some (event.Input (Radar range speed)))
+radar range speed = gives (Some (event.Input (Radar range speed)))
 
 -- 20 m; "0.1 as stored gives 1", the float below it 0
 pub a_tenth : seen 0x41a0_0000 0x3dcc_cccd ≡ radar 20 1

@@ -1,9 +1,8 @@
 -- Laws of a sighting: its answer exactly, the refusals, its event and that event's word.
 -- Assumes nothing.
-use Rattle.std.specs.Prelude.{Bool, true, false, ◌||◌, ◌↔◌, ◌⊎◌, ◌≡◌, refl, ℕ, ◌+◌, ◌*◌, ◌/◌, ◌≤◌, ◌<◌, max, leb, ltb, ℤ, Float}
+use Rattle.std.specs.Prelude.{Bool, true, false, ◌||◌, ◌↔◌, ◌⊎◌, ◌≡◌, refl, ℕ, ◌+◌, ◌*◌, ◌/◌, ◌≤◌, ◌<◌, max, leb, ltb, ℤ, Float, Option, Some, None}
 use Rattle.std.proofs.Common.{true≢false, inl, inr, ⊎_elim, sym, ◌∙◌, zero-mul, arith, leb-true, leb-false, le-leb, ltb-true, ltb-false, lt-ltb}
 use Rattle.std.proofs.lemmas.Bool.{false≢true, lt-leb}
-use Rattle.std.proofs.Math.Option.{Option, some, none}
 use Rattle.std.proofs.Math.Path.{ap, subst}
 use Rattle.std.proofs.Math.Nat.{le-div_iff_mul-le, div-lt_iff_lt-mul}
 use Rattle.std.specs.Float.Ieee.{nan, up, down}
@@ -81,7 +80,7 @@ reading_within metres tenths h = pick_false _ _ _ (lt-leb _ _ h)
 given_refused : {o : Option Event} (n : ℕ) → gives o ≡ refused n → ⊥
 given_refused n e = let z : ◌≡◌ {A = ℕ} 0 1 = cc e in omega arith
 
-some_none : {e : Event} → ◌≡◌ {A = Answer (Option Event)} (gives (some e)) (gives none) → ⊥
+some_none : {e : Event} → ◌≡◌ {A = Answer (Option Event)} (gives (Some e)) (gives None) → ⊥
 some_none e = let z : ◌≡◌ {A = ℕ} 0 1 = cc e in omega arith
 
 neither : (t u : Bool) → (t || u) ≡ false → (t ≡ false) × (u ≡ false)
@@ -104,7 +103,7 @@ module _ (metres kmh : Float) where
   unfolding seen_of vehicle_of
   vehicle_23 b a = pick_false _ _ _ b ∙ pick_true _ _ _ a
 
-  pub vehicle_event : bad ≡ false → above 500 kmh ≡ false → seen_of (Vehicle metres kmh) ≡ gives (some event_of)
+  pub vehicle_event : bad ≡ false → above 500 kmh ≡ false → seen_of (Vehicle metres kmh) ≡ gives (Some event_of)
   unfolding seen_of vehicle_of
   vehicle_event b a = pick_false _ _ _ b ∙ pick_false _ _ _ a
 
@@ -159,7 +158,7 @@ refused_number (Vehicle metres kmh) n e = either (unusable metres || unusable km
     (λ a. inr (cc (vehicle_23 metres kmh b a, e)))
     (λ a. absurd (given_refused n (sym (vehicle_event metres kmh b a) ∙ e))))
 
-pub none_fault : (s : Sighting) → seen_of s ≡ gives none → s ≡ Fault
+pub none_fault : (s : Sighting) → seen_of s ≡ gives None → s ≡ Fault
 unfolding seen_of
 none_fault Free e = absurd (some_none e)
 none_fault Fault e = refl
@@ -180,7 +179,7 @@ module _ (metres kmh : Float) (um : Usable metres) (uk : Usable kmh) (slow : Abo
   not_above : above 500 kmh ≡ false
   not_above = either (above 500 kmh) (λ t. absurd (slow ((above_exactly 500 kmh uk).0 t))) (λ f. f)
 
-  is_event : seen_of (Vehicle metres kmh) ≡ gives (some (reading_of whole_metres whole_tenths))
+  is_event : seen_of (Vehicle metres kmh) ≡ gives (Some (reading_of whole_metres whole_tenths))
   is_event = vehicle_event metres kmh (or_neither _ _ um uk) not_above
 
   -- an answer of a reading, with its range and speed
@@ -188,10 +187,10 @@ module _ (metres kmh : Float) (um : Usable metres) (uk : Usable kmh) (slow : Abo
   same_reading n t e = cc (is_event, e)
 
   far : 255 ≤ whole_metres → Reads metres kmh 0 0
-  far h = is_event ∙ ap (λ (e : Event). gives (some e)) (reading_far whole_metres whole_tenths h)
+  far h = is_event ∙ ap (λ (e : Event). gives (Some e)) (reading_far whole_metres whole_tenths h)
 
   within : whole_metres < 255 → Reads metres kmh (max whole_metres 1) whole_tenths
-  within h = is_event ∙ ap (λ (e : Event). gives (some e)) (reading_within whole_metres whole_tenths h)
+  within h = is_event ∙ ap (λ (e : Event). gives (Some e)) (reading_within whole_metres whole_tenths h)
 
   -- what a range above 0 says
   read_within : (n t : ℕ) → 1 ≤ n → Reads metres kmh n t → (max whole_metres 1 ≡ n) × (whole_tenths ≡ t) × (whole_metres < 255)
@@ -228,7 +227,7 @@ module _ (metres kmh : Float) (um : Usable metres) (uk : Usable kmh) (slow : Abo
   }
     where
       is_at : (n t : ℕ) → max whole_metres 1 ≡ n → whole_tenths ≡ t → Reads metres kmh (max whole_metres 1) whole_tenths → Reads metres kmh n t
-      is_at n t p q e = e ∙ ap (λ (x : ℕ). gives (some (event.Input (Radar x whole_tenths)))) p ∙ ap (λ (x : ℕ). gives (some (event.Input (Radar n x)))) q
+      is_at n t p q e = e ∙ ap (λ (x : ℕ). gives (Some (event.Input (Radar x whole_tenths)))) p ∙ ap (λ (x : ℕ). gives (Some (event.Input (Radar n x)))) q
 
 -- ---- an event of a sighting is a radar event with its values in range, so that checks 1 to 3 do not refuse it and its word is read back as that event
 pub record RadarEvent (e : Event) : Type 0 where
@@ -246,8 +245,8 @@ reading_radar metres tenths h = pick_case RadarEvent (leb 255 metres) _ _
 
 -- what an answer says of its event
 unfoldable Radars : Answer (Option Event) → Type 0
-Radars (gives (some e)) = RadarEvent e
-Radars (gives none) = Unit
+Radars (gives (Some e)) = RadarEvent e
+Radars (gives None) = Unit
 Radars (refused n) = Unit
 
 all_radar : (s : Sighting) → Radars (seen_of s)
@@ -258,7 +257,7 @@ all_radar (Vehicle metres kmh) = pick_case Radars (unusable metres || unusable k
 all_radar Free = record { range = 0; speed = 0; is = refl; range_le = omega arith; speed_le = omega arith }
 all_radar Fault = tt
 
-module _ (s : Sighting) (e : Event) (gave : seen_of s ≡ gives (some e)) where
+module _ (s : Sighting) (e : Event) (gave : seen_of s ≡ gives (Some e)) where
   pub event_radar : RadarEvent e
   unfolding Radars
   event_radar = subst Radars gave (all_radar s)

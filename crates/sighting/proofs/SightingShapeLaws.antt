@@ -1,7 +1,6 @@
 -- The code's way to a vehicle's answer: the metres' whole number, then the speed's.
 -- Assumes nothing.
-use Rattle.std.specs.Prelude.{true, false, ◌≡◌, ℕ, ◌<◌, min, leb, Float}
-use Rattle.std.proofs.Math.Option.{some, none}
+use Rattle.std.specs.Prelude.{true, false, ◌≡◌, ℕ, ◌<◌, min, leb, Float, Some, None}
 use Rattle.std.proofs.Common.{sym, ◌∙◌, arith, leb-true, leb-false}
 use Rattle.std.proofs.Math.Path.{ap}
 use Rattle.kit.specs.Answer.{gives, refused}
@@ -45,13 +44,13 @@ module _ (metres : ℕ) (kmh : Float) where
   unfolding at_speed
   speed_fast t e a = pick_false _ _ _ (whole_given 10 t kmh e).0 ∙ pick_true _ _ _ a
 
-  pub speed_read : (t : ℕ) → whole_of 10 kmh ≡ gives t → above 500 kmh ≡ false → at_speed metres kmh ≡ gives (some (reading_of metres t))
+  pub speed_read : (t : ℕ) → whole_of 10 kmh ≡ gives t → above 500 kmh ≡ false → at_speed metres kmh ≡ gives (Some (reading_of metres t))
   unfolding at_speed
   speed_read t e a =
       let w = whole_given 10 t kmh e in
       let l = tenths_le kmh w.0 a in
       let s : floor_times 10 kmh ≡ t = omega (arith, w.1, l) in
-      pick_false _ _ _ w.0 ∙ pick_false _ _ _ a ∙ ap (λ (n : ℕ). gives (some (reading_of metres n))) s
+      pick_false _ _ _ w.0 ∙ pick_false _ _ _ a ∙ ap (λ (n : ℕ). gives (Some (reading_of metres n))) s
 
 -- ---- the metres
 module _ (metres kmh : Float) (n : ℕ) where
@@ -64,11 +63,11 @@ module _ (metres kmh : Float) (n : ℕ) where
   metres_read e = let w = whole_given 1 n metres e in rw (w.0, w.1, reading_held (floor_times 1 metres) (floor_times 10 kmh))
 
 -- ---- an event of a sighting has a word
-pub word_written : (s : Sighting) (e : Event) → seen_of s ≡ gives (some e) → written (write_of e) ≡ seen_word s
+pub word_written : (s : Sighting) (e : Event) → seen_of s ≡ gives (Some e) → written (write_of e) ≡ seen_word s
 unfolding seen_word as_word written
 word_written s e h = rw (h, event_written s e h)
 
-pub word_none : (s : Sighting) → seen_of s ≡ gives none → seen_word s ≡ gives none
+pub word_none : (s : Sighting) → seen_of s ≡ gives None → seen_word s ≡ gives None
 unfolding seen_word as_word
 word_none s h = rw h
 

@@ -1,7 +1,6 @@
 -- What the answer to a vehicle has to be, exactly, over the whole number m and the power of two e that each float's bits stand for.
 -- Assumes nothing.
-use Rattle.std.specs.Prelude.{false, ◌↔◌, ◌≡◌, ℕ, ◌+◌, ◌*◌, ◌≤◌, ◌<◌, Float}
-use Rattle.std.proofs.Math.Option.{some}
+use Rattle.std.specs.Prelude.{false, ◌↔◌, ◌≡◌, ℕ, ◌+◌, ◌*◌, ◌≤◌, ◌<◌, Float, Some}
 use Rattle.std.specs.Float.{nan, inf, fin}
 use Rattle.std.specs.Float.Ieee.{up, down}
 use Rattle.kit.specs.Answer.{gives}
@@ -35,7 +34,7 @@ Usable x = unusable x ≡ false
 
 -- the sighting gives the reading of range n and speed t
 abbrev pub Reads : Float → Float → ℕ → ℕ → Type 0
-Reads metres kmh n t = seen_of (Vehicle metres kmh) ≡ gives (some (event.Input (Radar n t)))
+Reads metres kmh n t = seen_of (Vehicle metres kmh) ≡ gives (Some (event.Input (Radar n t)))
 
 -- of two floats that are usable, and a speed that is not above 500 km/h
 pub record Exactly (metres kmh : Float) : Type 0 where

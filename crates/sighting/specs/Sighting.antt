@@ -1,7 +1,6 @@
 -- The scene engine's sightings: document 02, §7.
 -- Assumes nothing.
-use Rattle.std.specs.Prelude.{◌||◌, ℕ, max, leb, Float}
-use Rattle.std.proofs.Math.Option.{Option, some, none}
+use Rattle.std.specs.Prelude.{◌||◌, ℕ, max, leb, Float, Option, Some, None}
 use Rattle.kit.specs.Answer.{Answer, gives, refused}
 use Rattle.kit.specs.Pick.{pick}
 use Rattle.event.specs.declared.Event.{Event}
@@ -10,22 +9,7 @@ use Rattle.event.specs.declared.Input.TheVariants.{Radar}
 use Rattle.event.specs.Words.{word_of}
 use Rattle.sighting.specs.declared.Sighting.{Sighting}
 use Rattle.sighting.specs.declared.Sighting.TheVariants.{Vehicle, Free, Fault}
-use Rattle.sighting.specs.declared.Seen.{Seen}
-use Rattle.sighting.specs.declared.Seen.TheVariants as seen
-use Rattle.sighting.specs.declared.SeenWord.{SeenWord}
-use Rattle.sighting.specs.declared.SeenWord.TheVariants as word
 use Rattle.sighting.specs.Value.{unusable, above, floor_times}
-
--- what a sighting's event and its word say: `some` event, `none` for "no event", or the number of a refusal
-abbrev pub seen_answer : Seen → Answer (Option Event)
-seen_answer (seen.Event e) = gives (some e)
-seen_answer seen.NoEvent = gives none
-seen_answer (seen.Refused n) = refused n
-
-abbrev pub seen_word_answer : SeenWord → Answer (Option ℕ)
-seen_word_answer (word.Word w) = gives (some w)
-seen_word_answer word.NoEvent = gives none
-seen_word_answer (word.Refused n) = refused n
 
 -- "A free road gives range 0 and speed 0"
 abbrev pub free_road : Event
@@ -41,19 +25,19 @@ unfoldable pub vehicle_of : Float → Float → Answer (Option Event)
 vehicle_of metres kmh =
     pick (unusable metres || unusable kmh) (refused 22)
     (pick (above 500 kmh) (refused 23)
-    (gives (some (reading_of (floor_times 1 metres) (floor_times 10 kmh)))))
+    (gives (Some (reading_of (floor_times 1 metres) (floor_times 10 kmh)))))
 
 -- "The engine's sighting is one of three: a car, with metres and km/h as 32-bit floats; a free road; a fault. It becomes a radar event."
 -- "A fault gives no event and says so"
 unfoldable pub seen_of : Sighting → Answer (Option Event)
 seen_of (Vehicle metres kmh) = vehicle_of metres kmh
-seen_of Free = gives (some free_road)
-seen_of Fault = gives none
+seen_of Free = gives (Some free_road)
+seen_of Fault = gives None
 
 -- the event as its word
 unfoldable pub as_word : Answer (Option Event) → Answer (Option ℕ)
-as_word (gives (some e)) = gives (some (word_of e))
-as_word (gives none) = gives none
+as_word (gives (Some e)) = gives (Some (word_of e))
+as_word (gives None) = gives None
 as_word (refused n) = refused n
 
 unfoldable pub seen_word : Sighting → Answer (Option ℕ)

@@ -1,18 +1,11 @@
 -- How the code goes: a float's whole number is worked out up to 2^23, which is past all that is looked at; then metres, then km/h.
 -- Assumes nothing.
-use Rattle.std.proofs.Math.Option.{Option, some}
-use Rattle.std.specs.Prelude.{ℕ, min, Float}
+use Rattle.std.specs.Prelude.{ℕ, min, Float, Option, Some}
 use Rattle.kit.specs.Answer.{Answer, gives, refused}
 use Rattle.kit.specs.Pick.{pick}
 use Rattle.event.specs.declared.Event.{Event}
-use Rattle.sighting.specs.declared.whole.Whole.{Whole}
-use Rattle.sighting.specs.declared.whole.Whole.TheVariants as whole
 use Rattle.sighting.specs.Sighting.{reading_of}
 use Rattle.sighting.specs.Value.{unusable, above, floor_times}
-
-abbrev pub whole_answer : Whole → Answer ℕ
-whole_answer (whole.Number n) = gives n
-whole_answer (whole.Refused n) = refused n
 
 -- 2^23
 abbrev pub large : ℕ
@@ -26,9 +19,9 @@ unfoldable pub at_speed : ℕ → Float → Answer (Option Event)
 at_speed metres kmh =
     pick (unusable kmh) (refused 22)
     (pick (above 500 kmh) (refused 23)
-    (gives (some (reading_of metres (floor_times 10 kmh)))))
+    (gives (Some (reading_of metres (floor_times 10 kmh)))))
 
 -- an event's writing, where there is an event
 unfoldable pub written : Answer ℕ → Answer (Option ℕ)
-written (gives w) = gives (some w)
+written (gives w) = gives (Some w)
 written (refused n) = refused n

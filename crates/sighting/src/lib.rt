@@ -1,39 +1,22 @@
 // The scene engine's sightings (document 02, §7): a sighting becomes a radar event, and the event's word.
 #![tactic(auto, using(kit::specs::Pick::picks))]
 
-ghost use Rattle.std.specs.Prelude.{◌≡◌, max};
-ghost use Rattle.event.specs.Words.{write_of};
+ghost use Rattle.std.specs.Prelude.{◌≡◌};
 ghost use Rattle.sighting.specs.Value.{above};
-ghost use Rattle.sighting.specs.Sighting.{seen_answer, seen_word_answer, reading_of, vehicle_of, seen_of, seen_word};
-ghost use Rattle.sighting.specs.SightingShape.{at_speed, written};
+ghost use Rattle.event.specs.Refusal.{answer};
+ghost use Rattle.sighting.specs.Sighting.{reading_of, vehicle_of, seen_of, seen_word};
+ghost use Rattle.sighting.specs.SightingShape.{at_speed};
 
-use event::{Event, Input, Writing, refusal};
-use whole::Whole;
+use event::{Event, Input, Refusal};
 
 mod whole;
 
 // What the engine sees: a car, with metres and km/h; a free road; nothing, for a fault of its own.
-#[derive(Clone, Copy)]
+#[derive(Clone, Copy, Debug, PartialEq)]
 pub enum Sighting {
     Vehicle(f32, f32),
     Free,
     Fault,
-}
-
-// The event of a sighting; none of a fault; or the refusal.
-#[derive(Clone, Copy)]
-pub enum Seen {
-    Event(Event),
-    NoEvent,
-    Refused(u32),
-}
-
-// The same with the event's word.
-#[derive(Clone, Copy)]
-pub enum SeenWord {
-    Word(u32),
-    NoEvent,
-    Refused(u32),
 }
 
 const FREE_ROAD: Event = Event::Input(Input::Radar { range: 0, speed: 0 });
@@ -45,12 +28,6 @@ fn too_fast(kmh: f32) -> bool
     kmh > 500.0
 }
 
-fn at_least_1(metres: u32) -> u32
-    ensures { result ≡ max metres 1 }
-{
-    if metres < 1 { 1 } else { metres }
-}
-
 // The reading of whole metres and tenths of km/h.
 #[tactic(auto, using(kit::specs::Pick::picks, crate::proofs::SightingLaws::reading_far, crate::proofs::SightingLaws::reading_within))]
 fn reading(metres: u32, tenths: u32) -> Event
@@ -60,65 +37,49 @@ fn reading(metres: u32, tenths: u32) -> Event
         return FREE_ROAD;
     }
     Event::Input(Input::Radar {
-        range: at_least_1(metres),
+        range: metres.max(1),
         speed: tenths,
     })
 }
 
-// A car at so many whole metres.
+// A car at so many whole metres: its event.
 #[tactic(auto, using(kit::specs::Pick::picks, crate::proofs::SightingShapeLaws::speed_refused, crate::proofs::SightingShapeLaws::speed_fast, crate::proofs::SightingShapeLaws::speed_read))]
-fn at_speed(metres: u32, kmh: f32) -> Seen
-    ensures { seen_answer result ≡ at_speed metres kmh }
+fn at_speed(metres: u32, kmh: f32) -> Result<Option<Event>, Refusal>
+    ensures { answer result ≡ at_speed metres kmh }
 {
-    match whole::of_float(kmh, 10) {
-        Whole::Refused(n) => Seen::Refused(n),
-        Whole::Number(tenths) => {
-            if too_fast(kmh) {
-                return Seen::Refused(refusal::TOO_FAST);
-            }
-            Seen::Event(reading(metres, tenths))
-        }
+    let tenths = whole::of_float(kmh, 10)?;
+    if too_fast(kmh) {
+        return Err(Refusal::TooFast);
     }
+    Ok(Some(reading(metres, tenths)))
 }
 
 #[tactic(auto, using(kit::specs::Pick::picks, crate::proofs::SightingShapeLaws::metres_refused, crate::proofs::SightingShapeLaws::metres_read))]
-fn vehicle(metres: f32, kmh: f32) -> Seen
-    ensures { seen_answer result ≡ vehicle_of metres kmh }
+fn vehicle(metres: f32, kmh: f32) -> Result<Option<Event>, Refusal>
+    ensures { answer result ≡ vehicle_of metres kmh }
 {
-    match whole::of_float(metres, 1) {
-        Whole::Refused(n) => Seen::Refused(n),
-        Whole::Number(whole) => at_speed(whole, kmh),
-    }
+    at_speed(whole::of_float(metres, 1)?, kmh)
 }
 
+// The event of a sighting; none of a fault.
 #[tactic(auto, using(kit::specs::Pick::picks), unfolding(crate::specs::Sighting::seen_of))]
-pub fn radar_event(sighting: Sighting) -> Seen
-    ensures { seen_answer result ≡ seen_of sighting }
+pub fn radar_event(sighting: Sighting) -> Result<Option<Event>, Refusal>
+    ensures { answer result ≡ seen_of sighting }
 {
     match sighting {
         Sighting::Vehicle(metres, kmh) => vehicle(metres, kmh),
-        Sighting::Free => Seen::Event(FREE_ROAD),
-        Sighting::Fault => Seen::NoEvent,
+        Sighting::Free => Ok(Some(FREE_ROAD)),
+        Sighting::Fault => Ok(None),
     }
 }
 
-#[tactic(auto, using(kit::specs::Pick::picks), unfolding(crate::specs::SightingShape::written))]
-fn event_word(event: Event) -> SeenWord
-    ensures { seen_word_answer result ≡ written (write_of event) }
+// The same with the event's word.
+#[tactic(auto, using(kit::specs::Pick::picks, crate::proofs::SightingShapeLaws::word_written, crate::proofs::SightingShapeLaws::word_none, crate::proofs::SightingShapeLaws::word_refused), unfolding(crate::specs::SightingShape::written))]
+pub fn radar_word(sighting: Sighting) -> Result<Option<u32>, Refusal>
+    ensures { answer result ≡ seen_word sighting }
 {
-    match event::write(event) {
-        Writing::Word(word) => SeenWord::Word(word),
-        Writing::Refused(n) => SeenWord::Refused(n),
-    }
-}
-
-#[tactic(auto, using(kit::specs::Pick::picks, crate::proofs::SightingShapeLaws::word_written, crate::proofs::SightingShapeLaws::word_none, crate::proofs::SightingShapeLaws::word_refused))]
-pub fn radar_word(sighting: Sighting) -> SeenWord
-    ensures { seen_word_answer result ≡ seen_word sighting }
-{
-    match radar_event(sighting) {
-        Seen::Event(event) => event_word(event),
-        Seen::NoEvent => SeenWord::NoEvent,
-        Seen::Refused(n) => SeenWord::Refused(n),
+    match radar_event(sighting)? {
+        Some(event) => Ok(Some(u32::try_from(event)?)),
+        None => Ok(None),
     }
 }

@@ -2,17 +2,11 @@
 ghost use Rattle.std.specs.Prelude.{◌≡◌, ◌*◌, ◌/◌, ◌^◌, ◌≤◌, ◌<◌, min};
 ghost use Rattle.std.specs.Float.{binary32};
 ghost use Rattle.std.specs.Float.Ieee.{of_bits};
+ghost use Rattle.event.specs.Refusal.{answer};
 ghost use Rattle.sighting.specs.Value.{floor_times};
-ghost use Rattle.sighting.specs.SightingShape.{whole_answer, whole_of, large};
+ghost use Rattle.sighting.specs.SightingShape.{whole_of, large};
 
-use event::refusal;
-
-// The whole number, at most 2^23, or the refusal.
-#[derive(Clone, Copy)]
-pub enum Whole {
-    Number(u32),
-    Refused(u32),
-}
+use event::Refusal;
 
 // The bits of infinity; those of no number and of the numbers with a minus sign come after them.
 const INFINITY: u32 = 0x7F80_0000;
@@ -45,32 +39,31 @@ fn of_finite(bits: u32, times: u32) -> u32
     if power == 0 {
         return shifted(times * digits, 149);
     }
-    let whole = shifted(times * (LARGE + digits), 150 - power);
-    if whole < LARGE { whole } else { LARGE }
+    shifted(times * (LARGE + digits), 150 - power).min(LARGE)
 }
 
 #[tactic(auto, using(kit::specs::Pick::picks, crate::proofs::WholeLaws::whole_minus_zero, crate::proofs::WholeLaws::whole_unusable, crate::proofs::WholeLaws::whole_usable, crate::proofs::ValueLaws::finite_usable, crate::proofs::ValueLaws::past_infinity_unusable))]
-fn of_bits(bits: u32, times: u32) -> Whole
+fn of_bits(bits: u32, times: u32) -> Result<u32, Refusal>
     requires { (times ≤ 10) × (1 ≤ times) }
-    ensures { whole_answer result ≡ whole_of times (of_bits binary32 bits) }
+    ensures { answer result ≡ whole_of times (of_bits binary32 bits) }
 {
     if bits == MINUS_ZERO {
-        return Whole::Number(0);
+        return Ok(0);
     }
     if bits >= INFINITY {
-        return Whole::Refused(refusal::BAD_FLOAT);
+        return Err(Refusal::BadFloat);
     }
-    Whole::Number(of_finite(bits, times))
+    Ok(of_finite(bits, times))
 }
 
 // A float that is no number has no bits of its own, and is told by differing from itself.
 #[tactic(auto, using(kit::specs::Pick::picks, crate::proofs::WholeLaws::whole_unusable, crate::proofs::ValueLaws::differs_unusable, crate::proofs::ValueLaws::same_number))]
-pub(crate) fn of_float(x: f32, times: u32) -> Whole
+pub(crate) fn of_float(x: f32, times: u32) -> Result<u32, Refusal>
     requires { (times ≤ 10) × (1 ≤ times) }
-    ensures { whole_answer result ≡ whole_of times x }
+    ensures { answer result ≡ whole_of times x }
 {
     if x != x {
-        return Whole::Refused(refusal::BAD_FLOAT);
+        return Err(Refusal::BadFloat);
     }
     of_bits(f32::to_bits(x), times)
 }

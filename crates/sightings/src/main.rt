@@ -3,8 +3,9 @@
 // there is an event, its range and its speed; the word's refusal, 1 where there is an event, and the word.
 #![tactic(auto)]
 
+use event::refusal::number;
 use event::{Event, Input};
-use sighting::{Seen, SeenWord, Sighting};
+use sighting::Sighting;
 
 // What the library is to store over.
 const UNUSED: u32 = 0xDEAD_BEEF;
@@ -20,34 +21,26 @@ fn by_library(out: &mut [u8], at: usize, kind: u32, metres: u32, kmh: u32) -> us
     tester::numbers(out, at, &[refusal, word])
 }
 
-// A reading's range and speed; of any other input, which no sighting gives, neither.
-fn put_input(out: &mut [u8], at: usize, input: Input) -> usize {
-    match input {
-        Input::Radar { range, speed } => tester::numbers(out, at, &[0, 1, range, speed]),
-        _ => at,
-    }
-}
-
-fn put_event(out: &mut [u8], at: usize, event: Event) -> usize {
-    match event {
-        Event::Input(input) => put_input(out, at, input),
-        Event::Tick { ready: _ } => at,
-    }
-}
-
+// A reading's range and speed; no sighting gives any other event.
 fn by_event(out: &mut [u8], at: usize, sighting: Sighting) -> usize {
-    match sighting::radar_event(sighting) {
-        Seen::Event(event) => put_event(out, at, event),
-        Seen::NoEvent => tester::numbers(out, at, &[0, 0, 0, 0]),
-        Seen::Refused(n) => tester::numbers(out, at, &[n, 0, 0, 0]),
+    let seen = sighting::radar_event(sighting);
+    let refusal = number(&seen);
+    match seen {
+        Ok(Some(Event::Input(Input::Radar { range, speed }))) => tester::numbers(
+            out,
+            at,
+            &[0, 1, range, speed],
+        ),
+        _ => tester::numbers(out, at, &[refusal, 0, 0, 0]),
     }
 }
 
 fn by_word(out: &mut [u8], at: usize, sighting: Sighting) -> usize {
-    match sighting::radar_word(sighting) {
-        SeenWord::Word(word) => tester::numbers(out, at, &[0, 1, word]),
-        SeenWord::NoEvent => tester::numbers(out, at, &[0, 0, 0]),
-        SeenWord::Refused(n) => tester::numbers(out, at, &[n, 0, 0]),
+    let seen = sighting::radar_word(sighting);
+    let refusal = number(&seen);
+    match seen {
+        Ok(Some(word)) => tester::numbers(out, at, &[0, 1, word]),
+        _ => tester::numbers(out, at, &[refusal, 0, 0]),
     }
 }
 
@@ -56,8 +49,9 @@ fn by_calls(out: &mut [u8], at: usize, kind: u32, metres: u32, kmh: u32) -> usiz
     if kind > 2 {
         return at;
     }
-    let end = by_event(out, at, tester::sighting(kind, metres, kmh));
-    by_word(out, end, tester::sighting(kind, metres, kmh))
+    let sighting = tester::sighting(kind, metres, kmh);
+    let end = by_event(out, at, sighting);
+    by_word(out, end, sighting)
 }
 
 fn line(out: &mut [u8], at: usize, kind: u32, metres: u32, kmh: u32) -> usize {
@@ -66,26 +60,25 @@ fn line(out: &mut [u8], at: usize, kind: u32, metres: u32, kmh: u32) -> usize {
     tester::end_line(out, second)
 }
 
-fn lines(out: &mut [u8], words: &[u32]) -> usize {
+fn lines(words: &[u32], out: &mut [u8]) -> usize {
     let mut end = 0;
-    let mut next = 0;
-    while next < words.len() {
+    for chunk in words.chunks(3) {
         let mut seen = [0; 3];
-        tester::fill(&mut seen, words, next);
+        tester::fill(&mut seen, chunk, 0);
         end = line(out, end, seen[0], seen[1], seen[2]);
-        next = tester::past(words, next, 3);
     }
     end
 }
 
 fn main(rt: HostRuntime) {
     let mut words = [0; 16384];
-    let input = tester::read_words(&rt, &mut words, b"sightings: standard input");
-    if input.failed {
-        return;
-    }
     let mut out = [0; 131072];
-    let count = input.count;
-    let end = lines(&mut out, &words[0..count]);
-    tester::write(&rt, &out, end, b"sightings: standard output");
+    tester::run(
+        &rt,
+        &mut words,
+        &mut out,
+        b"sightings: standard input",
+        b"sightings: standard output",
+        lines,
+    );
 }

@@ -1,26 +1,23 @@
--- The first i places of a slice filled: one turn of the loop, and its end.
+-- A slice filled with zeros, and the words that there are copied over its first places.
 -- Assumes nothing.
-use Rattle.std.proofs.Common.{List, ◌++◌, ◌≡◌, refl, ◌∙◌, ℕ, ◌+◌, ◌≤◌, ◌<◌, arith, length, take, drop, get_or, set}
-use Rattle.std.proofs.Math.Nat.{zero-add}
-use Rattle.std.proofs.Math.Numerals.{add-one}
-use Rattle.std.proofs.Math.ListN.{drop_of_length-le}
-use Rattle.std.proofs.Math.Seq.{paste-suc}
-use Rattle.std.proofs.lemmas.List.{append-nil, take_all}
+use Rattle.std.proofs.Common.{List, [], ◌∷◌, ◌++◌, ◌≡◌, refl, ap, ℕ, zero, suc, ◌≤◌, ◌<◌, arith, length, take, drop, replicate, min, not-suc-le-zero}
 use Rattle.tester.specs.Input.{first_of}
-use Rattle.tester.proofs.InputLaws.{first_length, first_at}
 
-pub filled : List ℕ → List ℕ → ℕ → List ℕ
-filled ws d i = take i (first_of (length d) ws) ++ drop i d
+pub zeros : (n : ℕ) → replicate n 0 ≡ first_of n []
+unfolding first_of
+zeros zero = refl
+zeros (suc n) = ap (0 ∷◌) (zeros n)
 
-pub fill_none : (ws d : List ℕ) → d ≡ filled ws d 0
-unfolding filled
-fill_none ws d = refl
+pub copied : (k n : ℕ) (ws : List ℕ) → k ≤ n → k ≤ length ws → (k < n → length ws ≤ k) → take k ws ++ drop k (replicate n 0) ≡ first_of n ws
+unfolding first_of
+copied zero n [] a b h = zeros n
+copied zero zero (w ∷ ws) a b h = refl
+copied zero (suc n) (w ∷ ws) a b h = absurd (not-suc-le-zero (h (omega arith)))
+copied (suc k) zero ws a b h = absurd (not-suc-le-zero a)
+copied (suc k) (suc n) [] a b h = absurd (not-suc-le-zero b)
+copied (suc k) (suc n) (w ∷ ws) a b h = ap (w ∷◌) (copied k n ws (omega arith) (omega arith) (λ c. let g = h (omega arith) in omega arith))
 
-pub fill_more : (ws d b : List ℕ) (i x : ℕ) → i < length d → b ≡ filled ws d i → x ≡ get_or ws i 0 → set b i x ≡ filled ws d (i + 1)
-unfolding filled
-fill_more ws d b i x h e f =
-    rw (e, f, ← first_at (length d) ws i h, add-one) (simp zero-add at (paste-suc d 0 (first_of (length d) ws) i 0 (omega (arith, zero-add i)) (omega (arith, first_length (length d) ws))))
-
-pub fill_all : (ws d b : List ℕ) (i : ℕ) → length d ≤ i → b ≡ filled ws d i → b ≡ first_of (length d) ws
-unfolding filled
-fill_all ws d b i h e = e ∙ rw (drop_of_length-le d h, take_all i (first_of (length d) ws) (omega (arith, first_length (length d) ws))) (append-nil _)
+pub filled : (rest ws into zeroed over : List ℕ) (k : ℕ) → rest ≡ ws → k ≡ min (length rest) (length into) → zeroed ≡ replicate (length into) 0 → over ≡ take k rest → over ++ drop k zeroed ≡ first_of (length into) ws
+filled rest ws into zeroed over k same count z o =
+    let len : length rest ≡ length ws = ap length same in
+    rw (z, o, same) (copied k (length into) ws (omega arith) (omega (arith, len)) (λ h. omega (arith, len)))

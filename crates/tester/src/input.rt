@@ -1,59 +1,41 @@
 // The words of standard input. A word past the end of the input reads as 0.
-ghost use Rattle.std.specs.Prelude.{◌≡◌, ◌+◌, ◌≤◌, min, length, get_or, drop};
+ghost use Rattle.std.specs.Prelude.{◌≡◌, ◌+◌, ◌≤◌, min, length, get_or, drop, IfOk};
 ghost use Rattle.std.specs.Float.{binary32};
 ghost use Rattle.std.specs.Float.Ieee.{of_bits};
 ghost use Rattle.settings.specs.SettingsWord.{write_of};
 ghost use Rattle.tester.specs.Input.{first_of, word_or0, sighting_of};
 
-use console::Reading;
-use settings::Writing;
+use console::Told;
 use sighting::Sighting;
 
-// Reads all of standard input, 131,072 bytes at most. `what` is the program and the input's name. No contract can say what is read.
+// Reads all of standard input, 131,072 bytes at most: how many words. `what` is the program and the input's name. No contract can say what is read.
 #[tactic(auto, using(kit::specs::Pick::picks), unfolding(wire::specs::Wire::words_count))]
-pub fn read_words(rt: &HostRuntime, words: &mut [u32], what: &[u8]) -> Reading
-    ensures { result.count ≤ length words.new }
+pub fn read_words(rt: &HostRuntime, words: &mut [u32], what: &[u8]) -> Result<usize, Told>
+    ensures { IfOk result (λ n. n ≤ length words.new) }
 {
     let mut bytes = [0; 131072];
-    let got = console::read_all(&mut rt.stdin(), &mut rt.stderr(), &mut bytes, what);
-    let count = got.count;
-    Reading {
-        count: wire::words_of(&bytes[0..count], words),
-        failed: got.failed,
-    }
+    let count = console::read_all(&mut rt.stdin(), &mut rt.stderr(), &mut bytes, what)?;
+    Ok(wire::words_of(&bytes[..count], words))
 }
 
 pub fn word(words: &[u32], at: usize) -> u32
     ensures { result ≡ get_or words.now at 0 }
 {
-    if at < words.len() {
-        return words[at];
-    }
-    0
+    words.get(at).copied().unwrap_or(0)
 }
 
 // The word at an index, held to a number.
 pub fn size(words: &[u32], at: usize, most: usize) -> usize
     ensures { result ≡ min (get_or words.now at 0) most }
 {
-    let size = word(words, at) as usize;
-    if size < most {
-        return size;
-    }
-    most
+    most.min(word(words, at) as usize)
 }
 
 // The index so many places further, or the end.
 pub fn further(at: usize, count: usize, end: usize) -> usize
     ensures { result ≡ min (at + count) end }
 {
-    if end < count {
-        return end;
-    }
-    if end - count < at {
-        return end;
-    }
-    at + count
+    at.saturating_add(count).min(end)
 }
 
 // The same among words.
@@ -67,10 +49,7 @@ pub fn past(words: &[u32], at: usize, count: usize) -> usize
 fn rest(words: &[u32], at: usize) -> &[u32]
     ensures { result.now ≡ drop at words.now }
 {
-    if words.len() <= at {
-        return &words[0..0];
-    }
-    &words[at..]
+    words.get(at..).unwrap_or(&[])
 }
 
 // Stores the words from an index on, one at each place of a slice.
@@ -78,11 +57,9 @@ pub fn fill(into: &mut [u32], words: &[u32], at: usize)
     ensures { into.new ≡ first_of (length into.old) (drop at words.now) }
 {
     let from = rest(words, at);
-    let mut i = 0;
-    while i < into.len() {
-        into[i] = word(from, i);
-        i += 1;
-    }
+    let count = from.len().min(into.len());
+    into.fill(0);
+    into[..count].copy_from_slice(&from[..count]);
 }
 
 // The settings word of mode and signs; settings outside their values have none, and get 0, which is refused as they are.
@@ -90,10 +67,7 @@ pub fn fill(into: &mut [u32], words: &[u32], at: usize)
 pub fn settings_word(mode: u32, signs: u32) -> u32
     ensures { result ≡ word_or0 (write_of mode signs) }
 {
-    match settings::write(mode, signs) {
-        Writing::Word(word) => word,
-        Writing::Refused(_) => 0,
-    }
+    settings::write(mode, signs).unwrap_or(0)
 }
 
 // The float of a word's bits. All that are no number are one float: the language makes none of them from its bits.
@@ -101,7 +75,7 @@ pub fn float(bits: u32) -> f32
     ensures { result ≡ of_bits binary32 bits }
 {
     if bits % 0x8000_0000 > 0x7F80_0000 {
-        return 0.0 / 0.0;
+        return f32::NAN;
     }
     f32::from_bits(bits)
 }

@@ -1,5 +1,6 @@
 // Text in a lent slice. Each function but `write` puts a text at an index and answers the index past it; where there is too little room for the
 // text nothing is put and the index is the one handed in. Room for a number is 21 bytes. A line is put part by part: those that have room.
+// No struct holds the slice and the index: as a method each function would stand here twice, since these keep their equations.
 ghost use Rattle.std.specs.Prelude.{◌≡◌, true, false, [], ◌∷◌, ◌<◌, length};
 ghost use Rattle.tester.specs.Fields.{fields_of};
 ghost use Rattle.tester.specs.Output.{page, put_text, put_ended, put_number, put_last, put_end_line, put_numbers, put_words_line};
@@ -42,7 +43,7 @@ pub fn number(out: &mut [u8], at: usize, n: u32) -> usize
     ended(out, at, n as u64, b' ')
 }
 
-// A count of words and a blank.
+// A count of words and a blank. Beside `number`, since a usize is no `Into<u64>`.
 fn count(out: &mut [u8], at: usize, n: usize) -> usize
     ensures { page out.new result ≡ put_number (page out.old at) n }
 {
@@ -61,10 +62,8 @@ pub fn numbers(out: &mut [u8], at: usize, words: &[u32]) -> usize
     ensures { page out.new result ≡ put_numbers (page out.old at) words.now }
 {
     let mut end = at;
-    let mut i = 0;
-    while i < words.len() {
-        end = number(out, end, words[i]);
-        i += 1;
+    for word in words {
+        end = number(out, end, *word);
     }
     end
 }
@@ -112,11 +111,12 @@ pub fn car_line(out: &mut [u8], at: usize, car: Car) -> usize
 }
 
 // Writes the text before an index to standard output, and says whether all of it went out. `what` is the program and the output's name.
+// A bool: a text that ends past `out` is no failure that was told.
 pub fn write(rt: &HostRuntime, out: &[u8], end: usize, what: &[u8]) -> bool
     ensures { (length out.now < end → result ≡ false) × (end ≡ 0 → result ≡ true) }
 {
     if out.len() < end {
         return false;
     }
-    console::write(&mut rt.stdout(), &mut rt.stderr(), &out[0..end], what)
+    console::write(&mut rt.stdout(), &mut rt.stderr(), &out[0..end], what).is_ok()
 }

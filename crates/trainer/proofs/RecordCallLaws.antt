@@ -1,13 +1,20 @@
 -- Laws of the record call, by equations, as the code's exits have them.
 -- Assumes nothing.
-use Rattle.std.specs.Prelude.{◌≡◌, List, ℕ, ◌<◌, length, take}
+use Rattle.std.specs.Prelude.{◌≡◌, refl, Result, Ok, Err, List, ℕ, ◌<◌, length, take}
 use Rattle.std.proofs.Common.{sym, ap, ◌∙◌, arith, eq-eqb, ne_eqb, length-take}
 use Rattle.kit.specs.Pick.{pick_true, pick_false}
+use Rattle.event.specs.declared.refusal.Refusal.{Refusal}
+use Rattle.event.specs.Refusal.{answer}
 use Rattle.car.specs.declared.Car.{Car}
 use Rattle.record.specs.Record.{read_of, saved_refusal, saved_buffer}
 use Rattle.record.proofs.RecordLaws.{not_accepted}
-use Rattle.trainer.specs.declared.Kept.{Kept}
-use Rattle.trainer.specs.RecordCall.{read_back, kept_of}
+use Rattle.trainer.specs.RecordCall.{Kept, keep_answer, read_back, kept_of}
+
+-- what a reading back says
+pub kept_answer : (c : Car) (r : Result Car Refusal) → keep_answer c r ≡ read_back c (answer r)
+unfolding read_back
+kept_answer c (Ok d) = refl
+kept_answer c (Err r) = refl
 
 -- fewer than twelve words are no record
 pub short_unread : (c : Car) (ws : List ℕ) → length ws < 12 → read_back c (read_of (take 12 ws)) ≡ record { car = c; refusal = 18 }

@@ -3,14 +3,11 @@
 use Rattle.std.specs.Prelude.{List, [], ◌∷◌, ◌++◌, ℕ, eqb, ltb, length, drop}
 use Rattle.kit.specs.Pick.{pick}
 use Rattle.car.specs.declared.Car.{Car}
-use Rattle.car.specs.declared.drive.Driven.{Driven}
-use Rattle.car.specs.declared.lesson.Taught.{Taught}
-use Rattle.car.specs.Drive.{step_of, drive_of}
-use Rattle.car.specs.Lesson.{answers_of, taught_of, untaught, lesson_of, answers_after}
+use Rattle.car.specs.Drive.{Driven, step_of, drive_of}
+use Rattle.car.specs.Lesson.{Taught, answers_of, taught_of, untaught, lesson_of, answers_after}
 use Rattle.record.specs.Layout.{packed}
 use Rattle.record.specs.Record.{saved_buffer}
-use Rattle.trainer.specs.declared.Kept.{Kept}
-use Rattle.trainer.specs.RecordCall.{kept_of}
+use Rattle.trainer.specs.RecordCall.{Kept, kept_of}
 
 -- one event word driven; a lesson, its words and its answer buffer; the record written into a buffer and read back
 pub data Call : Type 0 where

@@ -4,10 +4,10 @@
 
 ghost use Rattle.std.specs.Prelude.{◌≤◌, length};
 
-use console::Source;
+use console::Told;
 use exercise::Stage;
 
-fn write(rt: &HostRuntime, text: &[u8]) -> bool {
+fn write(rt: &HostRuntime, text: &[u8]) -> Result<(), Told> {
     console::write(
         &mut rt.stdout(),
         &mut rt.stderr(),
@@ -16,86 +16,84 @@ fn write(rt: &HostRuntime, text: &[u8]) -> bool {
     )
 }
 
-// The listing of the bytes of a file, and whether it went out.
-fn list_pieces(rt: &HostRuntime, bytes: &[u8], cut: usize, out: &mut [u8]) -> bool
+// One turn over a piece, its text written: how many bytes were used.
+#[tactic(auto, using(exercise::proofs::PiecesLaws::text_within, exercise::proofs::PiecesLaws::end_within))]
+fn turn(rt: &HostRuntime, stage: &mut Stage, piece: &[u8], out: &mut [u8]) -> Result<usize, Told> {
+    let turned = exercise::turn(*stage, piece, out);
+    *stage = turned.stage;
+    write(rt, &out[0..turned.end])?;
+    Ok(turned.used)
+}
+
+// The listing of the bytes of a file.
+#[tactic(auto, using(exercise::proofs::PiecesLaws::text_within))]
+fn list_pieces(rt: &HostRuntime, bytes: &[u8], cut: usize, out: &mut [u8]) -> Result<(), Told>
     requires { 1 ≤ cut }
 {
     let mut stage = Stage::Awaited;
-    let mut from = 0;
-    let mut to = 0;
-    while to < bytes.len() {
-        to = tester::further(to, cut, bytes.len());
-        let turned = exercise::turn(stage, &bytes[from..to], out);
-        let end = turned.end;
-        if !write(rt, &out[0..end]) {
-            return false;
-        }
-        stage = turned.stage;
-        from += turned.used;
-    }
-    let end = exercise::close(stage, bytes.len() - from, out);
+    let left = tester::pieces(bytes, cut, |piece| turn(rt, &mut stage, piece, out))?;
+    let end = exercise::close(stage, left, out);
     write(rt, &out[0..end])
 }
 
-fn list_open(rt: &HostRuntime, file: &mut Source, what: &[u8], cut: usize) -> bool
-    requires { 1 ≤ cut }
-{
-    let mut bytes = [0u8; 65536];
-    let mut out = [0u8; 65600];
-    let got = console::read_all(file, &mut rt.stderr(), &mut bytes, what);
-    let count = got.count;
-    !got.failed && list_pieces(rt, &bytes[0..count], cut, &mut out)
-}
-
 // Lists a file, whose name stands behind the program's.
-fn list(rt: &HostRuntime, what: &[u8], cut: usize) -> bool
+fn list(rt: &HostRuntime, what: &[u8], cut: usize) -> Result<(), Told>
     requires { (9 ≤ length what.now) × (1 ≤ cut) }
 {
-    match console::open(rt, &mut rt.stderr(), &what[9..], what) {
-        Some(mut file) => list_open(rt, &mut file, what, cut),
-        None => false,
-    }
+    let mut file = console::open(rt, &mut rt.stderr(), &what[9..], what)?;
+    let mut bytes = [0u8; 65536];
+    let mut out = [0u8; 65600];
+    let count = console::read_all(&mut file, &mut rt.stderr(), &mut bytes, what)?;
+    list_pieces(rt, &bytes[..count], cut, &mut out)
 }
 
-fn odd_files(rt: &HostRuntime) -> bool {
-    list(rt, b"vectors: example.bin", 1)
-        && list(rt, b"vectors: settings-alone.bin", 3)
-        && list(rt, b"vectors: nothing.bin", 1)
-        && list(rt, b"vectors: cut-first.bin", 2)
-        && list(rt, b"vectors: cut-later.bin", 3)
-        && list(rt, b"vectors: bad-settings-0.bin", 1)
-        && list(rt, b"vectors: bad-settings-1.bin", 3)
-        && list(rt, b"vectors: bad-settings-2.bin", 4)
-        && list(rt, b"vectors: bad-settings-3.bin", 5)
-        && list(rt, b"vectors: bad-settings-4.bin", 8)
+fn odd_files(rt: &HostRuntime) -> Result<(), Told> {
+    list(rt, b"vectors: example.bin", 1)?;
+    list(rt, b"vectors: settings-alone.bin", 3)?;
+    list(rt, b"vectors: nothing.bin", 1)?;
+    list(rt, b"vectors: cut-first.bin", 2)?;
+    list(rt, b"vectors: cut-later.bin", 3)?;
+    list(rt, b"vectors: bad-settings-0.bin", 1)?;
+    list(rt, b"vectors: bad-settings-1.bin", 3)?;
+    list(rt, b"vectors: bad-settings-2.bin", 4)?;
+    list(rt, b"vectors: bad-settings-3.bin", 5)?;
+    list(rt, b"vectors: bad-settings-4.bin", 8)
 }
 
-fn words(rt: &HostRuntime) -> bool {
-    list(rt, b"vectors: every-kind-every-low-bit.bin", 5)
-        && list(rt, b"vectors: random-words.bin", 7)
+fn words(rt: &HostRuntime) -> Result<(), Told> {
+    list(rt, b"vectors: every-kind-every-low-bit.bin", 5)?;
+    list(rt, b"vectors: random-words.bin", 7)
 }
 
-fn walks(rt: &HostRuntime) -> bool {
-    list(rt, b"vectors: walk-1.bin", 1)
-        && list(rt, b"vectors: walk-2.bin", 13)
-        && list(rt, b"vectors: walk-3.bin", 4)
-        && list(rt, b"vectors: walk-4.bin", 1001)
-        && list(rt, b"vectors: walk-5.bin", 4095)
-        && list(rt, b"vectors: walk-6.bin", 4096)
+fn walks(rt: &HostRuntime) -> Result<(), Told> {
+    list(rt, b"vectors: walk-1.bin", 1)?;
+    list(rt, b"vectors: walk-2.bin", 13)?;
+    list(rt, b"vectors: walk-3.bin", 4)?;
+    list(rt, b"vectors: walk-4.bin", 1001)?;
+    list(rt, b"vectors: walk-5.bin", 4095)?;
+    list(rt, b"vectors: walk-6.bin", 4096)
 }
 
 // Files of many pieces, of whole ones, and cut behind one.
-fn pages(rt: &HostRuntime) -> bool {
-    list(rt, b"vectors: pages-cycle.bin", 4093)
-        && list(rt, b"vectors: pages-whole.bin", 4096)
-        && list(rt, b"vectors: pages-cut.bin", 4096)
+fn pages(rt: &HostRuntime) -> Result<(), Told> {
+    list(rt, b"vectors: pages-cycle.bin", 4093)?;
+    list(rt, b"vectors: pages-whole.bin", 4096)?;
+    list(rt, b"vectors: pages-cut.bin", 4096)
 }
 
 // Back to the old speed after a roundabout: D kept, taken by forward, and cleared.
-fn roundabout(rt: &HostRuntime) -> bool {
+fn roundabout(rt: &HostRuntime) -> Result<(), Told> {
     list(rt, b"vectors: roundabout.bin", 4)
 }
 
+fn all(rt: &HostRuntime) -> Result<(), Told> {
+    odd_files(rt)?;
+    words(rt)?;
+    walks(rt)?;
+    pages(rt)?;
+    roundabout(rt)
+}
+
 fn main(rt: HostRuntime) {
-    let _listed = odd_files(&rt) && words(&rt) && walks(&rt) && pages(&rt) && roundabout(&rt);
+    let _ = all(&rt);
 }

@@ -1,21 +1,20 @@
 -- Laws of the words of some bytes, and of the bytes of some words.
 -- Assumes nothing.
-use Rattle.std.specs.Prelude.{Bool, ◌≡◌, refl, List, [], ◌∷◌, ◌++◌, get_or, drop}
-use Rattle.std.proofs.Math.Bool.{true, false}
+use Rattle.std.specs.Prelude.{◌≡◌, refl, List, [], ◌∷◌, ◌++◌, get_or, drop}
 use Rattle.std.proofs.Math.Path.{sym}
-use Rattle.std.proofs.Common.{ap, ◌∙◌, not-suc-le-zero, length-take, take_at, take_all, length-take-le}
+use Rattle.std.proofs.Common.{ap, ◌∙◌, not-suc-le-zero, length-take, take_at, length-take-le}
 use Prim.Native.Nat.{ℕ, zero, suc, ◌+◌, ◌-◌, ◌*◌, ◌/◌, ◌%◌, ◌^◌, ◌≤◌, ◌<◌, min}
 use Rattle.std.proofs.Math.Nat.{div-div-eq-div-mul}
 use native.Mathlib.Omega.{arith}
-use borrow.Author.Tests.{le-ltb, ltb-true, ltb-false}
-use Rattle.std.proofs.Math.Dec.{ltb}
+use borrow.Author.Tests.{le-ltb}
 use Rattle.std.proofs.Math.ListN.{length, take}
 use Rattle.std.proofs.Math.Seq.{take-length}
+use Rattle.std.proofs.lemmas.List.{take_min}
 use Rattle.kit.specs.Pick.{pick_false}
 use Rattle.kit.specs.Placed.{placed, placed_first}
 use Rattle.wire.specs.Wire.{joined, word_at, words_of, words_count, words_after, bytes_of, bytes_count, bytes_after, Below}
 
-word_within : (bs : List ℕ) (i : ℕ) → i + 4 ≤ length bs → word_at bs i ≡ joined (get_or bs i 0) (get_or bs (i + 1) 0) (get_or bs (i + 2) 0) (get_or bs (i + 3) 0)
+pub word_within : (bs : List ℕ) (i : ℕ) → i + 4 ≤ length bs → word_at bs i ≡ joined (get_or bs i 0) (get_or bs (i + 1) 0) (get_or bs (i + 2) 0) (get_or bs (i + 3) 0)
 unfolding word_at
 word_within bs i h = pick_false _ _ _ (le-ltb _ _ h)
 
@@ -83,14 +82,8 @@ module _ (bs z : List ℕ) {most : ℕ} (room : length z ≡ most) {n : ℕ} (co
   unfolding words_after
   words_taken e =
       let whole : n - 0 ≡ n = omega arith in
-      rw (e, ← count, whole) (take_at _ _ _ (length-take-le n (words_of bs) (omega (arith, least))) ∙ same)
-    where
-      go : (b : Bool) → ltb most (length (words_of bs)) ≡ b → take (min (length (words_of bs)) most) (words_of bs) ≡ take most (words_of bs)
-      go true h = let m : min (length (words_of bs)) most ≡ most = omega (arith, ltb-true most (length (words_of bs)) h) in rw m
-      go false h = let l : length (words_of bs) ≤ most = ltb-false most (length (words_of bs)) h in let m : min (length (words_of bs)) most ≡ length (words_of bs) = omega (arith, l) in rw m (take-length (words_of bs) ∙ sym (take_all _ _ l))
-
-      same : take n (words_of bs) ≡ take most (words_of bs)
-      same = rw least (go (ltb most (length (words_of bs))) refl)
+      let m : n ≡ min most (length (words_of bs)) = omega (arith, least) in
+      rw (e, ← count, whole) (take_at _ _ _ (length-take-le n (words_of bs) (omega (arith, least))) ∙ rw m (take_min most (words_of bs)))
 
   pub taken_le : {w : List ℕ} → w ≡ words_after bs z → length (take (n - 0) w) ≤ most
   taken_le e = rw (words_taken e) (omega (arith, length-take most (words_of bs)))

@@ -1,20 +1,28 @@
-use Rattle.std.proofs.Common.{refl, sym}
-use Rattle.record.proofs.RecordLaws.{read_packed}
-use Rattle.copy.proofs.Parts.{counting_begins, counting_again, counting_short, counting_ends}
+use Rattle.std.proofs.Common.{◌≤◌, length, ◌∙◌, arith}
+use Rattle.copy.proofs.Parts.{no_refusal, counting_short, counting_again, counting_ends}
 use Rattle.copy.proofs.fits.Goals as goal
 
-pub loop-accepted-init : goal.loop-accepted-init
-loop-accepted-init c = let p = read_packed _ _ c.requires in counting_begins _ _ _ (sym p.0) p.1 refl
+pub returns-in_err-taught : goal.returns-in_err-taught
+returns-in_err-taught c =
+    let few : length c.in-Some.part.now ≤ length c.loop-part.answers = omega (arith, c.loop-part.invariant.0, c.in-Some.ensures.steps.1.1) in
+    no_refusal _ _ _ c.loop-part.invariant.1.good few _ c.in_err-taught.ensures.0
 
-pub returns-then-room-accepted : goal.returns-then-room-accepted
-returns-then-room-accepted c =
-    let e = c.part_end-end.ensures in
-    counting_short _ _ _ _ _ _ _ _ c.loop-accepted.invariant e.0 e.1 e.2 _ c.lesson-taught.ensures c.if-room-accepted.true
+pub returns-then-left-taught : goal.returns-then-left-taught
+returns-then-left-taught c =
+    let s = c.in-Some.ensures.steps.1 in
+    let few : length c.in-Some.part.now ≤ length c.loop-part.answers = omega (arith, c.loop-part.invariant.0, s.1) in
+    counting_short _ _ _ _ _ _ _ c.loop-part.invariant.1 _ _ _ s.0 few _ c.in_ok-taught.ensures.0 c.if-left-taught.true
 
-pub loop-accepted-preserved : goal.loop-accepted-preserved
-loop-accepted-preserved c =
-    let e = c.part_end-end.ensures in
-    counting_again _ _ _ _ _ _ _ _ c.loop-accepted.invariant e.0 e.1 e.2 _ c.lesson-taught.ensures c.if-room-accepted.false
+pub loop-part-preserved : goal.loop-part-preserved
+loop-part-preserved c =
+    let s = c.in-Some.ensures.steps in
+    let few : length c.in-Some.part.now ≤ length c.loop-part.answers = omega (arith, c.loop-part.invariant.0, s.1.1) in
+    (s.0 ∙ c.loop-part.invariant.0, counting_again _ _ _ _ _ _ _ c.loop-part.invariant.1 _ _ _ s.1.0 few _ c.in_ok-taught.ensures.0 c.if-left-taught.false)
 
-pub returns : goal.returns
-returns c = counting_ends _ _ _ _ _ c.loop-accepted.invariant c.loop-accepted-test.false
+pub returns-in-None : goal.returns-in-None
+returns-in-None c =
+    let g = c.loop-part.invariant.1 in
+    counting_ends _ _ _ _ _ _ _ g (omega (arith, g.ahead_is, c.in-None.ensures.steps.1.0))
+
+pub returns-then-ahead-left : goal.returns-then-ahead-left
+returns-then-ahead-left c = counting_ends _ _ _ _ _ _ _ c.loop-part.invariant.1 c.if-ahead-left.true

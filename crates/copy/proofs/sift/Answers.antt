@@ -1,13 +1,13 @@
-use Rattle.copy.proofs.Parts.{word_room, sifting_again, sifting_ends}
+use Rattle.copy.proofs.Parts.{word_room, sifting_again}
 use Rattle.copy.proofs.sift.Goals as goal
 
 pub sift_word-end-requires : goal.sift_word-end-requires
-sift_word-end-requires c = word_room _ _ _ _ c.requires.0 c.requires.1 _ _ _ c.loop-i-test.true c.loop-i.invariant
+sift_word-end-requires c =
+    let s = c.in-Some.ensures.steps in
+    word_room _ _ _ _ _ _ _ _ c.loop-word.invariant _ _ _ _ s.0 s.1 c.requires
 
-pub loop-i-preserved : goal.loop-i-preserved
-loop-i-preserved c =
+pub loop-word-preserved : goal.loop-word-preserved
+loop-word-preserved c =
+    let s = c.in-Some.ensures.steps in
     let e = c.sift_word-end.ensures in
-    sifting_again _ _ _ _ c.requires.0 c.requires.1 _ _ _ c.loop-i-test.true c.loop-i.invariant e.0 e.1
-
-pub returns : goal.returns
-returns c = sifting_ends _ _ _ _ c.requires.0 c.requires.1 c.loop-i.invariant c.loop-i-test.false
+    sifting_again _ _ _ _ _ _ _ _ c.loop-word.invariant _ _ _ _ s.0 s.1 c.requires e.0 e.1

@@ -1,9 +1,7 @@
-use Rattle.std.proofs.Common.{◌-◌, length}
+use Rattle.std.specs.Iterator.Adapters.{zip_first, zip_second}
+use Rattle.std.specs.Slice.Iter.{iter_rest}
 use Rattle.copy.proofs.Parts.{Sifting}
 use Rattle.copy.proofs.sift.Given as goal
 
-abbrev pub invariant-loop-i : goal.invariant-loop-i
-invariant-loop-i l = Sifting l.words l.answers l.fn.copy l.copy l.at l.end l.i
-
-abbrev pub decreases-loop-i : goal.decreases-loop-i
-decreases-loop-i l = length l.words - l.i
+abbrev pub invariant-loop-word : goal.invariant-loop-word
+invariant-loop-word l = Sifting l.words l.answers l.fn.copy l.copy l.at l.end (iter_rest (zip_first l.word-iterator)) (iter_rest (zip_second l.word-iterator))

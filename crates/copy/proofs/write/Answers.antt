@@ -1,21 +1,37 @@
-use Rattle.std.proofs.Common.{refl, sym}
-use Rattle.record.proofs.RecordLaws.{read_packed}
-use Rattle.copy.proofs.Parts.{writing_begins, put_room, writing_again, writing_ends}
+use Rattle.std.proofs.Common.{◌*◌, ◌^◌, ◌≤◌, ◌<◌, length, ◌∙◌, arith, rules}
+use Rattle.copy.proofs.Parts.{no_refusal, writing_begins, put_room, written_few, writing_again, writing_ends}
 use Rattle.copy.proofs.write.Goals as goal
 
-pub loop-at-init : goal.loop-at-init
-loop-at-init c = let r = read_packed _ _ c.requires.0 in writing_begins _ _ _ c.requires.1 (sym r.0) r.1 refl
+pub loop-part-init : goal.loop-part-init
+loop-part-init c = (search rules, writing_begins _ _ _ c.requires.1 c.requires.0 (search rules))
 
-pub put-written-requires : goal.put-written-requires
-put-written-requires c =
-    let e = c.part_end-end.ensures in
-    put_room _ _ _ c.requires.1 _ _ _ _ _ _ c.loop-at.invariant e.0 e.1 e.2 _ c.lesson-taught.ensures
+pub returns-in_err-taught : goal.returns-in_err-taught
+returns-in_err-taught c =
+    let few : length c.in-Some.part.now ≤ length c.loop-part.answers = omega (arith, c.loop-part.invariant.0, c.in-Some.ensures.steps.1.1) in
+    no_refusal _ _ _ c.loop-part.invariant.1.good few _ c.in_err-taught.ensures.0
 
-pub loop-at-preserved : goal.loop-at-preserved
-loop-at-preserved c =
-    let e = c.part_end-end.ensures in
-    let s = c.put-written.ensures in
-    writing_again _ _ _ c.requires.1 _ _ _ _ _ _ c.loop-at.invariant e.0 e.1 e.2 _ c.lesson-taught.ensures s.0 s.1
+pub put-requires : goal.put-requires
+put-requires c =
+    let s = c.in-Some.ensures.steps.1 in
+    let t = c.in_ok-taught.ensures in
+    let few : length c.in-Some.part.now ≤ length c.loop-part.answers = omega (arith, c.loop-part.invariant.0, s.1) in
+    put_room _ _ _ c.requires.1 _ _ _ _ c.loop-part.invariant.1 _ _ _ _ s.0 few _ t.0 t.1
+
+pub overflow_add-written : goal.overflow_add-written
+overflow_add-written c =
+    let s = c.in-Some.ensures.steps.1 in
+    let t = c.in_ok-taught.ensures in
+    let few : length c.in-Some.part.now ≤ length c.loop-part.answers = omega (arith, c.loop-part.invariant.0, s.1) in
+    let written = written_few _ _ _ c.requires.1 _ _ _ _ c.loop-part.invariant.1 _ _ _ _ s.0 few _ t.0 t.1 in
+    let room : length c.loop-part.copy * 4 < 2 ^ 63 = search rules in
+    record { fits = omega (arith, written, room) }
+
+pub loop-part-preserved : goal.loop-part-preserved
+loop-part-preserved c =
+    let s = c.in-Some.ensures.steps in
+    let t = c.in_ok-taught.ensures in
+    let few : length c.in-Some.part.now ≤ length c.loop-part.answers = omega (arith, c.loop-part.invariant.0, s.1.1) in
+    (s.0 ∙ c.loop-part.invariant.0, writing_again _ _ _ c.requires.1 _ _ _ _ c.loop-part.invariant.1 _ _ _ _ s.1.0 few _ t.0 t.1 c.put.ensures)
 
 pub returns : goal.returns
-returns c = writing_ends _ _ _ c.requires.1 c.loop-at.invariant c.loop-at-test.false
+returns c = writing_ends _ _ _ c.requires.1 _ _ _ _ c.loop-part.invariant.1 c.in-None.ensures.steps.1.0

@@ -1,14 +1,20 @@
-use Rattle.std.proofs.Common.{◌≡◌, true, false, arith}
-use Rattle.car.specs.Good.{good_of}
-use Rattle.exercise.proofs.PiecesLaws.{runs}
-use Rattle.exercise.proofs.Turning.{undone, numbers_pass, not_good}
+use Rattle.std.proofs.Common.{refl, arith}
+use Rattle.event.proofs.RefusalLaws.{number_range}
+use Rattle.exercise.proofs.Turning.{undone, numbers_pass, not_good, bad_by, drove}
 use Rattle.exercise.proofs.drive_words.Goals as goal
 
-pub returns-then-place-words : goal.returns-then-place-words
-returns-then-place-words c = undone _ _ _ (numbers_pass _ _ (omega arith)) c.nothing_done.ensures
+pub returns-in_default : goal.returns-in_default
+returns-in_default c = undone _ _ (numbers_pass _ _ (omega (arith, c.in_default.ensures))) c.nothing_done.ensures
 
-pub returns-then-not-good : goal.returns-then-not-good
-returns-then-not-good c = let bad : good_of c.args.place.car ≡ false = cc in undone _ _ _ (not_good _ _ bad) c.nothing_done-then-not-good.ensures
+pub returns-in_default-trace : goal.returns-in_default-trace
+returns-in_default-trace c =
+    let s = c.args in
+    let bad = bad_by s.place s.words.now s.out.now _ _ c.requires.0 refl refl _ c.in_default-trace.ensures.0 _ refl (number_range c.in_default-trace.field-0).0 in
+    undone _ _ (not_good _ _ bad) c.nothing_done-in_default-trace.ensures
 
 pub returns : goal.returns
-returns c = let good : good_of c.args.place.car ≡ true = cc in rw (runs c.args.place c.args.words.now (omega arith) good) c.drive.ensures
+returns c =
+    let s = c.args in
+    let t = c.in-Ok.ensures in
+    let l = c.put_lines.ensures in
+    drove s.place s.words.now s.out.now _ _ c.requires.0 refl refl (omega (arith, c.in-Some.ensures.0)) c.in-Some.ensures.1 c.requires.1 t.0 t.1 t.2 l.0 l.1

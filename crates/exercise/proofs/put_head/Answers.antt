@@ -6,4 +6,4 @@ use Rattle.exercise.proofs.put_head.Goals as goal
 
 pub returns : goal.returns
 unfolding ascii head_text
-returns c = text_put _ 46 head_text (omega (arith, c.requires)) c.put_text.ensures
+returns c = let e = text_put _ 46 head_text (omega (arith, c.requires)) c.put_text.ensures in (e.0, omega (arith, e.0), e.1)

@@ -5,7 +5,7 @@ use Rattle.exercise.proofs.Turning.{undone, turn_short, turn_room, answered}
 use Rattle.exercise.proofs.turn.Goals as goal
 
 pub returns-then-out-lt-ROOM : goal.returns-then-out-lt-ROOM
-returns-then-out-lt-ROOM c = undone _ _ _ (turn_short _ _ _ c.if-out-lt-ROOM.true) c.nothing_done.ensures
+returns-then-out-lt-ROOM c = undone _ _ (turn_short _ _ _ c.if-out-lt-ROOM.true) c.nothing_done.ensures
 
 pub returns-in-Awaited : goal.returns-in-Awaited
 returns-in-Awaited c = let s = c.args in rw (turn_room s.out.now s.stage s.bytes.now c.if-out-lt-ROOM.false, c.in-Awaited.is) c.«open».ensures

@@ -1,9 +1,7 @@
-use Rattle.std.proofs.Common.{◌-◌, length}
+use Rattle.std.specs.Iterator.Adapters.{zip_first, zip_second}
+use Rattle.std.specs.Slice.Iter.{iter_rest}
 use Rattle.listing.proofs.Going.{Lining}
 use Rattle.listing.proofs.put_lines.Given as goal
 
-abbrev pub invariant-loop-i : goal.invariant-loop-i
-invariant-loop-i l = Lining l.answers l.speeds l.initial.out l.at l.first l.out l.end l.number l.i
-
-abbrev pub decreases-loop-i : goal.decreases-loop-i
-decreases-loop-i l = length l.answers - l.i
+abbrev pub invariant-loop-word : goal.invariant-loop-word
+invariant-loop-word l = Lining l.answers l.speeds l.initial.out l.at l.first l.out l.end l.number (iter_rest (zip_first l.word-iterator)) (iter_rest (zip_second l.word-iterator))

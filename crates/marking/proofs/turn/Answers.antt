@@ -1,11 +1,26 @@
-use Rattle.std.proofs.Common.{refl, arith}
-use Rattle.wire.proofs.WireLaws.{count_le, words_taken}
-use Rattle.marking.specs.Pieces.{turn_of}
+use Rattle.std.proofs.Common.{refl, sym, arith, length-take-le}
+use Rattle.wire.proofs.WireLaws.{count_le}
+use Rattle.exercise.proofs.Turning.{words_cut}
+use Rattle.marking.specs.Pieces.{idle, turn_of}
+use Rattle.marking.proofs.Turning.{turned}
 use Rattle.marking.proofs.turn.Goals as goal
 
-pub slice_bounds-turn_words-end : goal.slice_bounds-turn_words-end
-slice_bounds-turn_words-end c = omega (arith, count_le _ _ refl c.words_of-n.ensures.0)
+pub slice_bounds-words-end : goal.slice_bounds-words-end
+slice_bounds-words-end c = omega (arith, count_le _ _ refl c.words_of-n.ensures.0)
 
-pub returns : goal.returns
+pub slice_bounds-further-end : goal.slice_bounds-further-end
+slice_bounds-further-end c = sym (length-take-le _ _ (omega (arith, count_le _ _ refl c.words_of-n.ensures.0)))
+
+pub overflow_mul-result : goal.overflow_mul-result
+overflow_mul-result c = record { fits = omega (arith, count_le _ _ refl c.words_of-n.ensures.0) }
+
+pub returns-in-Some : goal.returns-in-Some
 unfolding turn_of
-returns c = let e = c.words_of-n.ensures in rw (words_taken _ _ refl e.0 e.1) at c.turn_words.ensures
+returns-in-Some c =
+    let e = c.words_of-n.ensures in
+    let size = length-take-le c.words_of-n.result c.words_of-n.new.words (omega (arith, count_le _ _ refl e.0)) in
+    rw (words_cut _ _ refl e.0 e.1) at (rw size at (turned c.args.mark c.args.stage _ _ c.in-Some.ensures))
+
+pub returns-in-None : goal.returns-in-None
+unfolding turn_of idle
+returns-in-None c = let e = c.words_of-n.ensures in rw (words_cut _ _ refl e.0 e.1) at (turned c.args.mark c.args.stage _ _ c.in-None.ensures)

@@ -1,21 +1,25 @@
-use Rattle.std.proofs.Common.{refl, sym, arith}
-use Rattle.record.proofs.RecordLaws.{read_packed}
-use Rattle.passing.proofs.Parts.{counting_begins, counted_few, counting_again, counting_ends}
+use Rattle.std.proofs.Common.{◌*◌, ◌^◌, ◌≤◌, ◌<◌, length, ◌∙◌, arith, rules}
+use Rattle.passing.proofs.Parts.{no_refusal, counted_few, counting_again, counting_ends}
 use Rattle.passing.proofs.count.Goals as goal
 
-pub loop-at-init : goal.loop-at-init
-loop-at-init c = let r = read_packed _ _ c.requires in counting_begins _ _ _ (sym r.0) r.1 refl
+pub returns-in_err-ran : goal.returns-in_err-ran
+returns-in_err-ran c =
+    let few : length c.in-Some.part.now ≤ length c.loop-part.answers = omega (arith, c.loop-part.invariant.0, c.in-Some.ensures.steps.1.1) in
+    no_refusal _ _ _ _ _ c.loop-part.invariant.1.good few _ c.in_err-ran.ensures.0
 
 pub overflow_add-seconds : goal.overflow_add-seconds
 overflow_add-seconds c =
-    let e = c.part_end-end.ensures in
-    let f = counted_few _ _ _ _ _ _ _ _ c.loop-at.invariant e.0 e.1 e.2 _ c.run-run.ensures in
-    omega arith
+    let s = c.in-Some.ensures.steps.1 in
+    let few : length c.in-Some.part.now ≤ length c.loop-part.answers = omega (arith, c.loop-part.invariant.0, s.1) in
+    let counted = counted_few _ _ _ _ _ _ c.loop-part.invariant.1 _ _ _ s.0 few _ c.in_ok-ran.ensures.0 in
+    let room : length c.args.words.now * 4 < 2 ^ 63 = search rules in
+    record { fits = omega (arith, counted, room) }
 
-pub loop-at-preserved : goal.loop-at-preserved
-loop-at-preserved c =
-    let e = c.part_end-end.ensures in
-    counting_again _ _ _ _ _ _ _ _ c.loop-at.invariant e.0 e.1 e.2 _ c.run-run.ensures
+pub loop-part-preserved : goal.loop-part-preserved
+loop-part-preserved c =
+    let s = c.in-Some.ensures.steps in
+    let few : length c.in-Some.part.now ≤ length c.loop-part.answers = omega (arith, c.loop-part.invariant.0, s.1.1) in
+    (s.0 ∙ c.loop-part.invariant.0, counting_again _ _ _ _ _ _ c.loop-part.invariant.1 _ _ _ s.1.0 few _ c.in_ok-ran.ensures.0)
 
 pub returns : goal.returns
-returns c = counting_ends _ _ _ c.loop-at.invariant c.loop-at-test.false
+returns c = counting_ends _ _ _ _ _ _ c.loop-part.invariant.1 c.requires c.in-None.ensures.steps.1.0

@@ -1,9 +1,6 @@
-use Rattle.std.proofs.Common.{◌≡◌, ◌-◌, ◌≤◌, length}
-use Rattle.wire.proofs.Filling.{filled}
+use Rattle.std.proofs.Common.{◌≡◌, ◌++◌, take, drop}
+use Rattle.wire.specs.Wire.{words_of}
 use Rattle.wire.proofs.words_of.Given as goal
 
 abbrev pub invariant-loop-i : goal.invariant-loop-i
-invariant-loop-i l = record { within : l.i ≤ l.count; same : length l.words ≡ length l.initial.words; slice : l.words ≡ filled l.bytes l.initial.words l.i }
-
-abbrev pub decreases-loop-i : goal.decreases-loop-i
-decreases-loop-i l = l.count - l.i
+invariant-loop-i l = l.words ≡ take l.i (words_of l.bytes) ++ drop l.i l.initial.words

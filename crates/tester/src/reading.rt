@@ -1,0 +1,46 @@
+// The input's words one after the other; those past its end are zeros.
+ghost use Rattle.std.specs.Prelude.{◌≡◌, ◌+◌, min, length, get_or, drop};
+ghost use Rattle.tester.specs.Input.{first_of};
+
+use crate::input::{fill, past, word};
+
+// The words, and the index of the next one.
+#[derive(Drop)]
+pub struct Reader<'a> {
+    pub words: &'a [u32],
+    pub next: usize,
+}
+
+impl Reader<'_> {
+    pub fn next(&mut self) -> u32
+        ensures { (result ≡ get_or self.old.words.now self.old.next 0) × (self.new.words.now ≡ self.old.words.now) × (self.new.next ≡ min (self.old.next + 1) (length self.old.words.now)) }
+    {
+        let word = word(self.words, self.next);
+        self.next = past(self.words, self.next, 1);
+        word
+    }
+
+    // The next word, held to a number.
+    pub fn size(&mut self, most: usize) -> usize
+        ensures { (result ≡ min (get_or self.old.words.now self.old.next 0) most) × (self.new.words.now ≡ self.old.words.now) × (self.new.next ≡ min (self.old.next + 1) (length self.old.words.now)) }
+    {
+        most.min(self.next() as usize)
+    }
+
+    // The next words, one at each place of a slice.
+    pub fn fill(&mut self, into: &mut [u32])
+        ensures { (into.new ≡ first_of (length into.old) (drop self.old.next self.old.words.now)) × (self.new.words.now ≡ self.old.words.now) × (self.new.next ≡ min (self.old.next + length into.old) (length self.old.words.now)) }
+    {
+        fill(into, self.words, self.next);
+        self.next = past(self.words, self.next, into.len());
+    }
+
+    // As many words as are asked for.
+    pub fn take<const N: usize>(&mut self) -> [u32; N]
+        ensures { (result ≡ first_of N (drop self.old.next self.old.words.now)) × (self.new.words.now ≡ self.old.words.now) × (self.new.next ≡ min (self.old.next + N) (length self.old.words.now)) }
+    {
+        let mut words = [0; N];
+        self.fill(&mut words);
+        words
+    }
+}
