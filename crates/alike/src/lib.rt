@@ -1,4 +1,4 @@
-// Two cars are alike (document 01, "The cab, alike, and the program").
+// Two cars are alike (document 01, "The cab, alike, and the program"). No `PartialEq`: cars that are alike need not be equal.
 #![tactic(auto, using(kit::specs::Pick::picks))]
 
 ghost use Rattle.std.specs.Prelude.{◌≡◌};

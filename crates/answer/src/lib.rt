@@ -32,7 +32,7 @@ impl From<Answer> for u32 {
     }
 }
 
-// The word of the same figures with a refusal, from that with none.
+// The word of the same figures with a refusal, from that with none. The refusal is its number, 0 for none, as the lesson's loop has it.
 pub fn refusing(word: u32, refusal: u32) -> u32
     ensures { result ≡ (word + refusal) % 2 ^ 32 }
 {

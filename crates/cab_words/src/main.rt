@@ -7,7 +7,7 @@ ghost use Rattle.car.specs.Drive.{drive_of};
 
 use car::Car;
 use event::refusal::number;
-use tester::Reader;
+use tester::{Page, Reader};
 
 // Lends the car on to the open call: its refusal, 0 for none.
 fn lent(car: &mut Car, word: u32) -> u32
@@ -16,38 +16,36 @@ fn lent(car: &mut Car, word: u32) -> u32
     number(&cab::drive(car, word))
 }
 
-fn line(car: &mut Car, word: u32, out: &mut [u8], at: usize) -> usize {
+fn line(car: &mut Car, word: u32, page: &mut Page<'_>) {
     let refusal = lent(car, word);
-    let after = *car;
-    let end = tester::numbers(out, at, &[refusal, after.speed]);
-    tester::last(out, end, after.cruise.desired)
+    page.numbers(&[refusal, car.speed]);
+    page.last(car.cruise.desired);
 }
 
-fn lines(first: Car, count: u32, mut input: Reader<'_>, out: &mut [u8]) -> usize {
+fn lines(first: Car, count: u32, mut input: Reader<'_>, page: &mut Page<'_>) {
     let mut car = first;
-    let mut end = 0;
     for _ in 0..count {
-        end = line(&mut car, input.next(), out, end);
+        line(&mut car, input.next(), page);
     }
-    end
 }
 
-fn drive(words: &[u32], out: &mut [u8]) -> usize {
+fn drive(words: &[u32], page: &mut Page<'_>) {
     let mut input = Reader { words, next: 0 };
     let [count, mode, signs] = input.take::<3>();
     match Car::fresh(mode, signs) {
-        Ok(car) => lines(car, count, input, out),
-        Err(refusal) => tester::last(out, 0, u32::from(refusal)),
+        Ok(car) => lines(car, count, input, page),
+        Err(refusal) => page.last(u32::from(refusal)),
     }
 }
 
 fn main(rt: HostRuntime) {
     let mut words = [0; 16384];
     let mut out = [0; 131072];
+    let mut page = Page::new(&mut out);
     tester::run(
         &rt,
         &mut words,
-        &mut out,
+        &mut page,
         b"cab_words: standard input",
         b"cab_words: standard output",
         drive,

@@ -6,7 +6,7 @@
 use car::Car;
 use car::lesson::Taught;
 use event::refusal::number;
-use tester::Reader;
+use tester::{Page, Reader};
 
 // A lesson's words start here in the program's own array.
 const START: usize = 3;
@@ -17,23 +17,22 @@ const MOST: usize = 32;
 // What a call is to store over, or to keep.
 const UNUSED: u32 = 0xDEAD_BEEF;
 
-fn fresh(car: &mut Car, input: &mut Reader<'_>, out: &mut [u8], at: usize) -> usize {
+// Car, input and page stand apart: `tester::cases` hands the last two to each case anew, so that a struct of the three would be made for each.
+fn fresh(car: &mut Car, input: &mut Reader<'_>, page: &mut Page<'_>) {
     let [mode, signs] = input.take::<2>();
     let made = Car::fresh(mode, signs);
-    let end = tester::words_line(out, at, &[number(&made)]);
-    let Ok(first) = made else {
-        return end;
-    };
-    *car = first;
-    tester::car_line(out, end, first)
+    page.words_line(&[number(&made)]);
+    if let Ok(first) = made {
+        *car = first;
+        page.car_line(first);
+    }
 }
 
-fn set(car: &mut Car, input: &mut Reader<'_>, at: usize) -> usize {
+fn set(car: &mut Car, input: &mut Reader<'_>) {
     *car = tester::car_at(&input.take::<23>(), 0);
-    at
 }
 
-fn drive(car: &mut Car, input: &mut Reader<'_>, out: &mut [u8], at: usize) -> usize {
+fn drive(car: &mut Car, input: &mut Reader<'_>, page: &mut Page<'_>) {
     let word = input.next();
     let before = *car;
     let driven = before.drive(word);
@@ -43,10 +42,10 @@ fn drive(car: &mut Car, input: &mut Reader<'_>, out: &mut [u8], at: usize) -> us
     let after = driven.unwrap_or(before);
     *car = after;
     let alike = event::bit(alike::alike(before, after));
-    tester::words_line(out, at, &[refusal, answer[0], alike])
+    page.words_line(&[refusal, answer[0], alike]);
 }
 
-fn taught(car: &mut Car, events: &[u32], buffer: &mut [u32], out: &mut [u8], at: usize) -> usize {
+fn taught(car: &mut Car, events: &[u32], buffer: &mut [u32], page: &mut Page<'_>) {
     let before = *car;
     let answer = before.lesson(events, buffer);
     let refusal = number(&answer);
@@ -56,67 +55,69 @@ fn taught(car: &mut Car, events: &[u32], buffer: &mut [u32], out: &mut [u8], at:
         refused: 0,
     });
     *car = taught.car;
-    let line = tester::lesson_line(out, at, refusal, taught.accepted, taught.refused);
-    tester::words_line(out, line, buffer)
+    page.lesson_line(refusal, taught.accepted, taught.refused);
+    page.words_line(buffer);
 }
 
-fn lesson(car: &mut Car, input: &mut Reader<'_>, out: &mut [u8], at: usize) -> usize {
+fn lesson(car: &mut Car, input: &mut Reader<'_>, page: &mut Page<'_>) {
     let size = input.size(MOST);
     let end = START + input.size(MOST);
     let mut events = [0; 64];
     let mut buffer = [UNUSED; 64];
     input.fill(&mut events[START..end]);
-    taught(car, &events[START..end], &mut buffer[..size], out, at)
+    taught(car, &events[START..end], &mut buffer[..size], page);
 }
 
-fn kept(car: &mut Car, buffer: &mut [u32], out: &mut [u8], at: usize) -> usize {
+fn kept(car: &mut Car, buffer: &mut [u32], page: &mut Page<'_>) {
     let before = *car;
     let kept = trainer::keep(before, buffer);
-    let line = tester::words_line(out, at, &[number(&kept)]);
+    page.words_line(&[number(&kept)]);
     *car = kept.unwrap_or(before);
-    tester::words_line(out, line, buffer)
+    page.words_line(buffer);
 }
 
-fn record_call(car: &mut Car, input: &mut Reader<'_>, out: &mut [u8], at: usize) -> usize {
+fn record_call(car: &mut Car, input: &mut Reader<'_>, page: &mut Page<'_>) {
     let size = input.size(MOST);
     let mut buffer = [UNUSED; 64];
-    kept(car, &mut buffer[..size], out, at)
+    kept(car, &mut buffer[..size], page);
 }
 
-fn any_other(kind: u32, car: &mut Car, input: &mut Reader<'_>, out: &mut [u8], at: usize) -> usize {
+// A kind is the input's own number: an enum would name each case a second time.
+fn any_other(kind: u32, car: &mut Car, input: &mut Reader<'_>, page: &mut Page<'_>) {
     match kind {
-        2 => set(car, input, at),
-        3 => drive(car, input, out, at),
-        4 => lesson(car, input, out, at),
-        _ => record_call(car, input, out, at),
+        2 => set(car, input),
+        3 => drive(car, input, page),
+        4 => lesson(car, input, page),
+        _ => record_call(car, input, page),
     }
 }
 
-fn call(kind: u32, car: &mut Car, input: &mut Reader<'_>, out: &mut [u8], at: usize) -> usize {
+fn call(kind: u32, car: &mut Car, input: &mut Reader<'_>, page: &mut Page<'_>) {
     if kind == 1 {
-        return fresh(car, input, out, at);
+        return fresh(car, input, page);
     }
-    let end = any_other(kind, car, input, out, at);
-    tester::car_line(out, end, *car)
+    any_other(kind, car, input, page);
+    page.car_line(*car);
 }
 
-fn calls(words: &[u32], out: &mut [u8]) -> usize {
+fn calls(words: &[u32], page: &mut Page<'_>) {
     let Ok(first) = Car::fresh(1, 0) else {
-        return tester::end_line(out, 0);
+        return page.end_line();
     };
     let mut car = first;
-    tester::cases(words, out, |kind, input, out, at| {
-        call(kind, &mut car, input, out, at)
-    })
+    tester::cases(words, page, |kind, input, page| {
+        call(kind, &mut car, input, page)
+    });
 }
 
 fn main(rt: HostRuntime) {
     let mut words = [0; 16384];
     let mut out = [0; 131072];
+    let mut page = Page::new(&mut out);
     tester::run(
         &rt,
         &mut words,
-        &mut out,
+        &mut page,
         b"calls: standard input",
         b"calls: standard output",
         calls,

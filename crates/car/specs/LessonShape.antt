@@ -1,10 +1,11 @@
--- How the lesson's loop goes, beside the definitions: a tick by its parts, the answer of an accepted word, buffers filled as far as they
+-- How the lesson's loop goes, beside the definitions: check 4 of an input, a tick by its parts, the answer of an accepted word, buffers filled as far as they
 -- reach. `LessonShapeLaws` proves each equal to what it stands for.
 -- Assumes nothing.
-use Rattle.std.specs.Prelude.{Bool, List, [], ◌∷◌, ℕ, ◌+◌, leb}
+use Rattle.std.specs.Prelude.{Bool, ◌&&◌, List, [], ◌∷◌, ℕ, ◌+◌, leb, ltb}
 use Rattle.kit.specs.Pick.{pick}
-use Rattle.event.specs.Words.{body_of, ready_of}
-use Rattle.checks.specs.Checks.{tick_check}
+use Rattle.event.specs.declared.Input.{Input}
+use Rattle.event.specs.Words.{input_kind, body_of, ready_of}
+use Rattle.checks.specs.Checks.{key_on, tick_check}
 use Rattle.car.specs.declared.Car.{Car}
 use Rattle.car.specs.Drive.{Driven, step_of}
 use Rattle.car.specs.Car.{with_radar}
@@ -14,6 +15,10 @@ use Rattle.car.specs.Rules.{radar_tested}
 -- the answer word of an accepted word that gave this car; a refused word adds its number
 unfoldable pub accepted_answer : Car → ℕ
 accepted_answer c = answer_of (record { refusal = 0; car = c })
+
+-- check 4 of an input alone
+unfoldable pub key_needed : Car → Input → ℕ
+key_needed c i = pick (leb 4 (input_kind i) && ltb (input_kind i) 10) (key_on c.key 0) 0
 
 -- a tick's word: check 2, then 15 and 16
 unfoldable pub tick_refusal : Car → ℕ → Bool → ℕ

@@ -1,6 +1,6 @@
 // The acceleration a of a car (document 01, "Rules of each event"), by its code a + 60.
 ghost use Rattle.std.specs.Prelude.{◌≡◌, ◌≤◌};
-ghost use Rattle.kit.specs.Bounds.{pedal_ceiling, speed_ceiling};
+ghost use Rattle.kit.specs.Bounds.{speed_ceiling};
 ghost use Rattle.motion.specs.Acceleration.{speeding, slowing, brake_term, gas_term, braked, coasting, towards, cruising, acceleration_code};
 ghost use Rattle.motion.specs.AccelerationShape.{strived, urged_code};
 ghost use Rattle.car.specs.Acceleration.{target_of, acceleration_of};
@@ -22,43 +22,6 @@ fn slowing(size: u32) -> u32
     ensures { result ≡ acceleration_code (slowing size) }
 {
     60 - size
-}
-
-// b×60÷225 and g×30÷225, in lowest terms: the factor is a power of two, so that only the quotient takes a product.
-#[tactic(auto, using(kit::specs::Pick::picks), unfolding(motion::specs::Acceleration::brake_term))]
-fn brake_term(brake: u32) -> u32
-    requires { brake ≤ pedal_ceiling }
-    ensures { result ≡ brake_term brake }
-{
-    brake * 4 / 15
-}
-
-#[tactic(auto, using(kit::specs::Pick::picks), unfolding(motion::specs::Acceleration::gas_term))]
-fn gas_term(gas: u32) -> u32
-    requires { gas ≤ pedal_ceiling }
-    ensures { result ≡ gas_term gas }
-{
-    gas * 2 / 15
-}
-
-#[tactic(auto, using(kit::specs::Pick::picks, motion::proofs::AccelerationLaws::brake_term_le), unfolding(motion::specs::Acceleration::braked))]
-fn braked(brake: u32, speed: u32) -> u32
-    requires { brake ≤ pedal_ceiling }
-    ensures { result ≡ acceleration_code (braked brake speed) }
-{
-    if speed == 0 {
-        return speeding(0);
-    }
-    slowing(brake_term(brake))
-}
-
-// The gas term of a pedal in its range is at most 30 already, here and in `urged`.
-#[tactic(auto, using(kit::specs::Pick::picks, motion::proofs::AccelerationLaws::gas_term_le), unfolding(motion::specs::Acceleration::coasting))]
-fn coasting(gas: u32) -> u32
-    requires { gas ≤ pedal_ceiling }
-    ensures { result ≡ acceleration_code (coasting gas) }
-{
-    speeding(gas_term(gas))
 }
 
 // A tenth of a difference of speeds in m/s, at least 1.
@@ -85,25 +48,58 @@ fn towards(speed: u32, target: u32) -> u32
     slowing(strived.min(30))
 }
 
-// a from the code of s, by the gas.
-#[tactic(auto, using(kit::specs::Pick::picks, motion::proofs::AccelerationLaws::gas_term_le), unfolding(motion::specs::AccelerationShape::urged_code))]
-fn urged(gas: u32, s: u32) -> u32
-    requires { gas ≤ pedal_ceiling }
-    ensures { result ≡ urged_code gas s }
-{
-    if gas == 0 {
-        return s;
-    }
-    60 + gas_term(gas).max(s.saturating_sub(60))
-}
-
 impl GoodCar {
+    // b×60÷225 and g×30÷225, in lowest terms: the factor is a power of two, so that only the quotient takes a product. Two
+    // functions, since the document names and moves each by itself.
+    #[tactic(auto, using(kit::specs::Pick::picks), unfolding(motion::specs::Acceleration::brake_term))]
+    fn brake_term(self) -> u32
+        ensures { result ≡ brake_term self.car.pedals.brake }
+    {
+        self.car.pedals.brake * 4 / 15
+    }
+
+    #[tactic(auto, using(kit::specs::Pick::picks), unfolding(motion::specs::Acceleration::gas_term))]
+    fn gas_term(self) -> u32
+        ensures { result ≡ gas_term self.car.pedals.gas }
+    {
+        self.car.pedals.gas * 2 / 15
+    }
+
+    #[tactic(auto, using(kit::specs::Pick::picks, motion::proofs::AccelerationLaws::brake_term_le), unfolding(motion::specs::Acceleration::braked))]
+    fn braked(self) -> u32
+        ensures { result ≡ acceleration_code (braked self.car.pedals.brake self.car.speed) }
+    {
+        if self.car.speed == 0 {
+            return speeding(0);
+        }
+        slowing(self.brake_term())
+    }
+
+    // The gas term of a pedal in its range is at most 30 already, here and in `urged`.
+    #[tactic(auto, using(kit::specs::Pick::picks, motion::proofs::AccelerationLaws::gas_term_le), unfolding(motion::specs::Acceleration::coasting))]
+    fn coasting(self) -> u32
+        ensures { result ≡ acceleration_code (coasting self.car.pedals.gas) }
+    {
+        speeding(self.gas_term())
+    }
+
+    // a from the code of s, by the gas.
+    #[tactic(auto, using(kit::specs::Pick::picks, motion::proofs::AccelerationLaws::gas_term_le), unfolding(motion::specs::AccelerationShape::urged_code))]
+    fn urged(self, s: u32) -> u32
+        ensures { result ≡ urged_code self.car.pedals.gas s }
+    {
+        if self.car.pedals.gas == 0 {
+            return s;
+        }
+        60 + self.gas_term().max(s.saturating_sub(60))
+    }
+
     #[tactic(auto, using(motion::proofs::AccelerationShapeLaws::cruising_code, crate::proofs::AccelerationLaws::target_le), unfolding(crate::specs::Acceleration::target_of))]
     fn cruising(self) -> u32
         ensures { result ≡ acceleration_code (cruising self.car.pedals.gas self.car.speed (target_of self.car)) }
     {
         let target = motion::target(self.ahead(), self.car.cruise.desired, self.car.radar.lead);
-        urged(self.car.pedals.gas, towards(self.car.speed, target))
+        self.urged(towards(self.car.speed, target))
     }
 
     // a + 60. A good car with cruise on has the key on and no brake, so that its cases can come first; with the key not on it has neither
@@ -119,9 +115,9 @@ impl GoodCar {
             return self.cruising();
         }
         if self.car.pedals.brake > 0 {
-            return braked(self.car.pedals.brake, self.car.speed);
+            return self.braked();
         }
-        coasting(self.car.pedals.gas)
+        self.coasting()
     }
 
     #[tactic(auto, using(crate::proofs::AccelerationShapeLaws::decoded_code))]

@@ -2,7 +2,7 @@
 ghost use Rattle.std.specs.Prelude.{◌≡◌};
 ghost use Rattle.event.specs.Refusal.{number};
 ghost use Rattle.car.specs.Checks.{own_check, input_check};
-ghost use Rattle.car.specs.LessonShape.{tick_refusal};
+ghost use Rattle.car.specs.LessonShape.{tick_refusal, key_needed};
 
 use crate::Car;
 use checks::{
@@ -49,15 +49,22 @@ impl Car {
         }
     }
 
-    // The kinds 4 to 9 need the key on.
-    #[tactic(auto, using(kit::specs::Pick::kinds), unfolding(crate::specs::Checks::input_check))]
+    // Check 4: the kinds 4 to 9 need the key on, by number, as the document names them.
+    #[tactic(auto, using(kit::specs::Pick::kinds), unfolding(crate::specs::LessonShape::key_needed))]
+    fn check_key(self, input: Input) -> Result<(), Refusal>
+        ensures { number result ≡ key_needed self input }
+    {
+        match event::kind(input) {
+            4..=9 => key_on(self.key),
+            _ => Ok(()),
+        }
+    }
+
+    // Check 4, then the kind's own.
     pub(crate) fn check(self, input: Input) -> Result<(), Refusal>
         ensures { number result ≡ input_check self input }
     {
-        let own = self.own_check(input);
-        match event::kind(input) {
-            4..=9 => key_on(self.key, own),
-            _ => own,
-        }
+        self.check_key(input)?;
+        self.own_check(input)
     }
 }

@@ -29,7 +29,7 @@ impl Car {
         }
     }
 
-    // 18 for a car that is not good, then 1 to 16, then the rule.
+    // 18 for a car that is not good, then 1 to 16, then the rule. A tick is told by its word, as in a lesson.
     pub fn drive(self, word: u32) -> Result<Car, Refusal>
         ensures { drive_answer self result ≡ drive_of self word }
     {

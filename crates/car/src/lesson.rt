@@ -1,4 +1,5 @@
-// A lesson (document 01, "A lesson"): a lent run of event words, with one answer word for each.
+// A lesson (document 01, "A lesson"): a lent run of event words, with one answer word for each. Words and room for answers come one by one, as
+// C hands them over: that there is too little room is a refusal. So do the two marks: a count of seconds has none to stop at.
 ghost use Rattle.std.specs.Prelude.{true, ◌&&◌, ◌||◌, not, ◌≡◌, eqb, leb, length, ◌≤◌};
 ghost use Rattle.kit.specs.Pick.{pick};
 ghost use Rattle.motion.specs.Acceleration.{acceleration_code};
@@ -13,7 +14,7 @@ use crate::tick::Moved;
 use answer::Answer;
 use event::Refusal;
 
-// The car after a lesson, and how many words it accepted and refused.
+// The car after a lesson, and how many words it accepted and refused. No part of `Ran`: its readers would name two fields for one.
 #[derive(Clone, Copy)]
 pub struct Taught {
     pub car: Car,
@@ -22,7 +23,8 @@ pub struct Taught {
 }
 
 // A lesson that stops where a mark is passed (document 02, §5): the car behind the words driven, how many of them were accepted and refused,
-// how many of their seconds ended at or above a mark, and whether one passed the mark that stops it.
+// how many of their seconds ended at or above a mark, and whether one passed the mark that stops it: a flag, since the
+// rest is said either way.
 #[derive(Clone, Copy)]
 pub struct Ran {
     pub car: Car,
@@ -50,14 +52,12 @@ impl From<Ran> for Taught {
 fn counts(mark: u32, speed: u32) -> usize
     ensures { result ≡ pick (leb mark speed) 1 0 }
 {
-    if mark <= speed {
-        return 1;
-    }
-    0
+    usize::from(mark <= speed)
 }
 
 impl GoodCar {
-    // The answer word of an accepted word that gave this car, by the code of its acceleration.
+    // The answer word of an accepted word that gave this car, by the code of its acceleration. Here and in a tick the code stands beside the car: a
+    // lesson's loop would store a struct of both whole.
     fn answer(self, code: u32) -> u32
         requires { code ≡ acceleration_code (acceleration_of self.car) }
         ensures { result ≡ accepted_answer self.car }
@@ -74,7 +74,9 @@ impl GoodCar {
     // A lesson of a good car with room for its answers; v after each word goes into a second buffer as far as that reaches. It stops behind
     // the word that passes the mark `halt`, and counts the seconds that end at `mark` or above.
     // The car is changed in place, and a, the answer word and whether v is below `halt` are worked out again only where a word can have changed them.
-    // A tick stands here by its parts and a refusal by its number: by `drive_tick` and its result a word takes a fifth more instructions.
+    // That is why a word's parts stand here once more, and not by `drive_tick` and `drive_input`: of a tick `moved` tells it. A refusal is its number,
+    // as the answer word has it.
+    // Answers go in by index: of a slice that a zip over its `iter_mut` filled, a proof knows the length alone.
     fn teach(
         self,
         words: &[u32],
@@ -198,7 +200,7 @@ impl Car {
         Ok(Taught::from(self.run(words, answers, 0, 0)?))
     }
 
-    // The same with v after each word.
+    // The same with v after each word, in a slice of its own: answers alone are what C has.
     #[tactic(auto, using(kit::specs::Pick::picks), unfolding(crate::specs::Lesson::trace_short))]
     pub fn trace(
         self,

@@ -1,6 +1,8 @@
 // The cruise trainer's car (document 01, "The car and a fresh one"): its parts, its settings and a fresh one.
 // A comment at each field gives the document's letter. Speeds are in tenths of km/h, times in seconds, ranges in metres. The fields'
 // order is the one of several tried of which the compiler makes the fastest lesson; nothing else rests on it.
+// Positions and numbers are any u32, as a record's words or a caller hand them over, and the good-car test says which are refused. A flag is no
+// `Option`: D and Z stand while theirs is off, and the R of a radar that is not ready is the record's 255.
 #![tactic(auto, using(kit::specs::Pick::picks))]
 
 ghost use Rattle.std.specs.Prelude.{◌≡◌};
@@ -88,7 +90,7 @@ impl Car {
 
     pub const LESSON_LENGTH: u32 = checks::LESSON_LENGTH;
 
-    // A fresh car, or the refusal of its settings.
+    // A fresh car, or the refusal of its settings, which are any two numbers.
     #[tactic(auto, using(kit::specs::Pick::picks), unfolding(crate::specs::Car::fresh_of, crate::specs::Car::check17, crate::specs::Car::settings_of))]
     pub fn fresh(mode: u32, signs: u32) -> Result<Car, Refusal>
         ensures { answer result ≡ fresh_of mode signs }

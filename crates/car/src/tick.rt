@@ -1,6 +1,5 @@
 // The tick (document 01, "Rules of each event"): one second.
 ghost use Rattle.std.specs.Prelude.{◌≡◌, ◌&&◌, eqb, leb, ◌+◌, ◌-◌, ◌≤◌};
-ghost use Rattle.kit.specs.Bounds.{speed_ceiling};
 ghost use Rattle.motion.specs.Acceleration.{acceleration_code};
 ghost use Rattle.motion.specs.AccelerationShape.{moved_by};
 ghost use Rattle.motion.specs.Speed.{at_most};
@@ -38,20 +37,6 @@ fn tested(mut radar: RangeRadar, ready: bool, now: u32) -> RangeRadar
     radar
 }
 
-// v after a second of the acceleration, by its code.
-#[tactic(auto, using(kit::specs::Pick::picks), unfolding(motion::specs::AccelerationShape::moved_by))]
-fn speed_after(speed: u32, code: u32) -> u32
-    requires { (speed ≤ speed_ceiling) × (code ≤ 127) }
-    ensures { result ≡ moved_by speed code }
-{
-    if code < 60 {
-        return speed
-            .saturating_sub((60 - code) * 36 / 10)
-            .min(Car::SPEED_CEILING);
-    }
-    (speed + (code - 60) * 36 / 10).min(Car::SPEED_CEILING)
-}
-
 // D and v after a second.
 #[derive(Clone, Copy)]
 pub(crate) struct Moved {
@@ -85,6 +70,22 @@ impl Car {
 }
 
 impl GoodCar {
+    // v after a second of the acceleration, by its code.
+    #[tactic(auto, using(kit::specs::Pick::picks), unfolding(motion::specs::AccelerationShape::moved_by))]
+    fn speed_after(self, code: u32) -> u32
+        requires { code ≤ 127 }
+        ensures { result ≡ moved_by self.car.speed code }
+    {
+        if code < 60 {
+            return self
+                .car
+                .speed
+                .saturating_sub((60 - code) * 36 / 10)
+                .min(Car::SPEED_CEILING);
+        }
+        (self.car.speed + (code - 60) * 36 / 10).min(Car::SPEED_CEILING)
+    }
+
     // The radar is tested in this second.
     #[tactic(auto, using(kit::specs::Pick::picks), unfolding(crate::specs::Rules::test_due))]
     pub(crate) fn test_due(self) -> bool
@@ -93,7 +94,7 @@ impl GoodCar {
         (self.car.key == 2) & (self.car.now + 1 == self.car.radar.tested + Car::TEST_PERIOD)
     }
 
-    // D after h seconds with the lever out.
+    // D after h seconds with the lever out. For h below 2 it is D as it stands, where the good-car test's `held` has B.
     #[tactic(auto, using(kit::specs::Pick::picks), unfolding(crate::specs::Rules::hold_desired))]
     fn held_for(self, h: u32) -> u32
         requires { self.car.levers.updown ≡ 0 → ⊥ }
@@ -134,7 +135,7 @@ impl GoodCar {
         requires { code ≡ acceleration_code (acceleration_of self.car) }
         ensures { result ≡ record { desired = tick_desired self.car; speed = tick_speed self.car (tick_desired self.car) } }
     {
-        let free = speed_after(self.car.speed, code);
+        let free = self.speed_after(code);
         let limited = at_most(self.car.limiter.on, self.car.limiter.limit, free);
         if !self.car.cruise.on {
             return Moved {

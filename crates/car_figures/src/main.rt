@@ -5,57 +5,52 @@
 use car::Car;
 use event::bit;
 use event::refusal::number;
+use tester::Page;
 
-fn sign(out: &mut [u8], at: usize, slows: bool) -> usize {
+fn sign(page: &mut Page<'_>, slows: bool) {
     if slows {
-        return tester::text(out, at, b"-");
+        page.text(b"-");
     }
-    at
 }
 
-fn line(out: &mut [u8], at: usize, car: Car) -> usize {
+fn line(page: &mut Page<'_>, car: Car) {
     let answer = car.figures();
     let refusal = number(&answer);
     let figures = answer.unwrap_or_default();
     let a = figures.acceleration;
-    let mut end = tester::numbers(out, at, &[refusal, figures.speed, figures.desired]);
-    end = sign(out, end, a.slows);
-    end = tester::numbers(
-        out,
-        end,
-        &[a.size, bit(figures.visual), bit(figures.acoustic)],
-    );
-    tester::last(out, end, figures.distance)
+    page.numbers(&[refusal, figures.speed, figures.desired]);
+    sign(page, a.slows);
+    page.numbers(&[a.size, bit(figures.visual), bit(figures.acoustic)]);
+    page.last(figures.distance);
 }
 
-fn lines(out: &mut [u8], start: usize, words: &[u32]) -> usize {
-    let mut end = start;
+fn lines(page: &mut Page<'_>, words: &[u32]) {
     for fields in words.chunks_exact(23) {
-        end = line(out, end, tester::car_at(fields, 0));
+        line(page, tester::car_at(fields, 0));
     }
-    end
 }
 
-fn fresh_lines(out: &mut [u8]) -> usize {
-    let mut end = 0;
-    for i in 0..12 {
-        end = tester::last(out, end, number(&Car::fresh(i / 3, i % 3)));
+fn fresh_lines(page: &mut Page<'_>) {
+    for mode in 0..4 {
+        for signs in 0..3 {
+            page.last(number(&Car::fresh(mode, signs)));
+        }
     }
-    end
 }
 
-fn all_lines(words: &[u32], out: &mut [u8]) -> usize {
-    let start = fresh_lines(out);
-    lines(out, start, words)
+fn all_lines(words: &[u32], page: &mut Page<'_>) {
+    fresh_lines(page);
+    lines(page, words);
 }
 
 fn main(rt: HostRuntime) {
     let mut words = [0; 16384];
     let mut out = [0; 131072];
+    let mut page = Page::new(&mut out);
     tester::run(
         &rt,
         &mut words,
-        &mut out,
+        &mut page,
         b"car_figures: standard input",
         b"car_figures: standard output",
         all_lines,

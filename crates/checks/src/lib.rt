@@ -1,7 +1,9 @@
 // The checks 4 to 16 over plain numbers (document 01, "From file, pupil, radar, clock and caller"): the first number that holds, or 0.
+// Positions stay numbers, and what a lever or pedal holds stands beside what is asked of it: a word or a car may hold any u32, and the laws say
+// each number by itself.
 #![tactic(auto, using(kit::specs::Pick::picks))]
 
-ghost use Rattle.std.specs.Prelude.{◌≡◌, not, eqb};
+ghost use Rattle.std.specs.Prelude.{◌≡◌, ◌&&◌, ◌||◌, not, eqb};
 ghost use Rattle.kit.specs.Pick.{pick};
 ghost use Rattle.event.specs.Refusal.{number};
 ghost use Rattle.checks.specs.Checks.{key_on, key_skips, key_check, up_down_skips, up_down_check, fore_back_skips, fore_back_check, pedal_check, button_check, radar_check, tick_check};
@@ -11,22 +13,29 @@ use event::Refusal;
 // The last second of the clock, at which no tick is accepted.
 pub const LESSON_LENGTH: u32 = 86_400;
 
-// 4, before what the kind's own checks give.
+// 4, which stands before the kind's own checks.
 #[tactic(auto, using(kit::specs::Pick::picks), unfolding(crate::specs::Checks::key_on))]
-pub fn key_on(key: u32, own: Result<(), Refusal>) -> Result<(), Refusal>
-    ensures { number result ≡ key_on key (number own) }
+pub fn key_on(key: u32) -> Result<(), Refusal>
+    ensures { number result ≡ key_on key 0 }
 {
     if key != 2 {
         return Err(Refusal::KeyNotOn);
     }
-    own
+    Ok(())
+}
+
+// From one of two positions to the other.
+fn between(one: u32, two: u32, from: u32, to: u32) -> bool
+    ensures { result ≡ (eqb from one && eqb to two || eqb from two && eqb to one) }
+{
+    ((from == one) & (to == two)) | ((from == two) & (to == one))
 }
 
 #[tactic(auto, using(kit::specs::Pick::picks), unfolding(crate::specs::Checks::key_skips))]
 fn key_skips(from: u32, to: u32) -> bool
     ensures { result ≡ key_skips from to }
 {
-    ((from == 0) & (to == 2)) | ((from == 2) & (to == 0))
+    between(0, 2, from, to)
 }
 
 #[tactic(auto, using(kit::specs::Pick::picks), unfolding(crate::specs::Checks::key_check))]
@@ -48,7 +57,7 @@ pub fn key_check(key: u32, speed: u32, position: u32, ready: bool) -> Result<(),
     Ok(())
 }
 
-// Of either lever, by what it and the other one hold, and whether the move skips a position.
+// Of either lever, by what it and the other one hold, and whether the move skips a position: the two checks differ in that alone.
 fn lever_check(held: u32, other: u32, position: u32, skips: bool) -> Result<(), Refusal>
     ensures { number result ≡ pick (eqb position held) 5 (pick skips 7 (pick (not (eqb other 0)) 8 0)) }
 {
@@ -84,7 +93,7 @@ pub fn up_down_check(updown: u32, foreback: u32, position: u32) -> Result<(), Re
 fn fore_back_skips(from: u32, to: u32) -> bool
     ensures { result ≡ fore_back_skips from to }
 {
-    ((from == 1) & (to == 2)) | ((from == 2) & (to == 1))
+    between(1, 2, from, to)
 }
 
 // Of the fore-back lever, by what it and the other lever hold.

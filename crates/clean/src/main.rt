@@ -45,10 +45,6 @@ impl Work for Events {
             end: turned.end,
         }
     }
-
-    fn has_ended(&self) -> bool {
-        false
-    }
 }
 
 // A refusal, on standard error.
@@ -70,6 +66,7 @@ fn clean_events(pipe: &mut Pipe, settings: &[u8], car: Car) -> Result<(), Told> 
     Ok(())
 }
 
+// `mark` opens its file alike: shared, it would be a function of two closures, longer than both.
 fn clean(pipe: &mut Pipe) -> Result<(), Told> {
     let mut first = [0; 4];
     let count = pipe.read_all(&mut first)?;
@@ -85,5 +82,5 @@ fn clean(pipe: &mut Pipe) -> Result<(), Told> {
 fn main(rt: HostRuntime) {
     let mut what = [0; 4104];
     let request = command::asked(&rt, b"clean: ", &mut what);
-    let _ = pieces::answer(&rt, TEXTS, request, &what, |_, pipe| clean(pipe));
+    let _ = pieces::answer(&rt, TEXTS, request, |_, pipe| clean(pipe));
 }

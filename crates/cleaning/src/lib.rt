@@ -12,7 +12,8 @@ ghost use Rattle.cleaning.specs.Pieces.{idle, words_turn, turn_in, answered};
 use car::Car;
 use event::Refusal;
 
-// What a turn gives: the car behind it, how many of its bytes it used, and where the clean bytes end.
+// What a turn gives: the car behind it, how many of its bytes it used, and where the clean bytes end in the lent slice. `exercise` has one with a
+// stage for the car (the reason stands there).
 #[derive(Clone, Copy)]
 pub struct Turned {
     pub car: Car,
@@ -36,6 +37,7 @@ pub fn open(bytes: &[u8]) -> Result<Car, Refusal>
     settings::start(wire::word_at(bytes, 0))
 }
 
+// Beside that of `exercise`, as the two structs are.
 #[tactic(auto, using(kit::specs::Pick::picks), unfolding(crate::specs::Pieces::answered, crate::specs::Pieces::idle))]
 fn nothing_done(car: Car) -> Turned
     ensures { result ≡ answered (idle car) }
@@ -65,7 +67,7 @@ fn clean_words(car: Car, words: &[u32], out: &mut [u8]) -> Turned
 
 // One turn over the bytes that have come and were not used: the bytes of its accepted words stand in `out` from index 0 on. With less than 4,096
 // bytes there, or a car that is not good, nothing is done.
-#[tactic(auto, using(kit::specs::Pick::picks, kit::specs::Placed::placed_nothing), unfolding(crate::specs::Pieces::turn_in, crate::specs::Pieces::idle))]
+#[tactic(auto, using(kit::specs::Pick::picks, kit::specs::Placed::placed_nothing), unfolding(crate::specs::Pieces::turn_in, crate::specs::Pieces::idle, wire::specs::Wire::words_count))]
 pub fn turn(car: Car, bytes: &[u8], out: &mut [u8]) -> Turned
     ensures { (result ≡ answered (turn_in out.old car bytes.now)) × (out.new ≡ placed out.old 0 (turn_in out.old car bytes.now).bytes) }
 {

@@ -14,15 +14,15 @@ mod typed;
 
 pub use typed::read_number;
 
-// What they ask for: an input, with what was said before its name and the index where that name ends; the help; or the usage.
+// What they ask for: an input, with what was said before its name, and the program and that name, as a failure is told; the help; or the usage.
 #[derive(Drop)]
-pub enum Request<B> {
-    Input(B, Source, usize),
+pub enum Request<'a, B> {
+    Input(B, Source, &'a [u8]),
     Help,
     Usage,
 }
 
-// The system's numbers for an argument that is not there, and for one that is too long.
+// The system's numbers (as in `console`) for an argument that is not there, and for one that is too long.
 const EINVAL: i32 = 22;
 
 const ENAMETOOLONG: i32 = 36;
@@ -43,7 +43,8 @@ fn help_alone(rt: &HostRuntime) -> bool {
     }
 }
 
-// A text at an index; the index past it, as `listing` has it. A struct of both would have to say of each method that the buffer keeps its length.
+// A text at an index; the index past it, as `listing` has it. A struct of `what` and `at` would have to say of each method that the buffer keeps its
+// length.
 #[tactic(auto, using(listing::proofs::ListingLaws::past_within))]
 fn put(what: &mut [u8], at: usize, text: &[u8]) -> usize
     requires { at ≤ length what.old }
@@ -53,14 +54,19 @@ fn put(what: &mut [u8], at: usize, text: &[u8]) -> usize
 }
 
 // A file's name, which is no option. `what` is the program and that name.
-fn file<B: Drop>(rt: &HostRuntime, before: B, name: &[u8], what: &[u8]) -> Result<Request<B>, Told>
+fn file<'a, B: Drop>(
+    rt: &HostRuntime,
+    before: B,
+    name: &[u8],
+    what: &'a [u8],
+) -> Result<Request<'a, B>, Told>
     ensures { NameWithin result what.now }
 {
     if name.starts_with(b"-") {
         return Ok(Request::Usage);
     }
     let file = console::open(rt, &mut rt.stderr(), name, what)?;
-    Ok(Request::Input(before, file, what.len()))
+    Ok(Request::Input(before, file, what))
 }
 
 // A name that is no argument, or too long for one, stands as FILE.
@@ -77,35 +83,35 @@ fn unnamed(rt: &HostRuntime, error: FillError, what: &mut [u8], at: usize) -> To
 }
 
 // An argument, a file's name, goes behind the program's name, which ends at an index.
-fn named<B: Drop>(
+fn named<'a, B: Drop>(
     rt: &HostRuntime,
     before: B,
     argument: usize,
-    what: &mut [u8],
+    what: &'a mut [u8],
     at: usize,
-) -> Result<Request<B>, Told>
+) -> Result<Request<'a, B>, Told>
     requires { at ≤ length what.old }
-    ensures { NameWithin result what.new }
+    ensures { NameWithin result what.old }
 {
     match rt.arg(argument, &mut what[at..]) {
         Ok(size) => {
-            let end = at + size;
-            file(rt, before, &what[at..end], &what[0..end])
+            let what = &what[0..at + size];
+            file(rt, before, &what[at..], what)
         }
         Err(error) => Err(unnamed(rt, error, what, at)),
     }
 }
 
 // The file that the last argument names, standard input where that is missing.
-fn input<B: Drop>(
+fn input<'a, B: Drop>(
     rt: &HostRuntime,
     before: B,
     argument: usize,
     program: &[u8],
-    what: &mut [u8],
-) -> Result<Request<B>, Told>
+    what: &'a mut [u8],
+) -> Result<Request<'a, B>, Told>
     requires { argument ≤ 2 }
-    ensures { NameWithin result what.new }
+    ensures { NameWithin result what.old }
 {
     if has_argument(rt, argument + 1) {
         return Ok(Request::Usage);
@@ -113,14 +119,18 @@ fn input<B: Drop>(
     let at = put(what, 0, program);
     if !has_argument(rt, argument) {
         let end = put(what, at, b"standard input");
-        return Ok(Request::Input(before, console::standard_input(rt), end));
+        return Ok(Request::Input(before, console::standard_input(rt), &what[0..end]));
     }
     named(rt, before, argument, what, at)
 }
 
-// `program` is the program's name and ": ". It and the input's name stand in `what` afterwards, as a failure is told.
-pub fn asked(rt: &HostRuntime, program: &[u8], what: &mut [u8]) -> Result<Request<()>, Told>
-    ensures { NameWithin result what.new }
+// `program` and `what` go as two: a program names them in one call alone. `program` is its name and ": ". It and the input's name stand in `what` afterwards, which is lent because the programs have no heap.
+pub fn asked<'a>(
+    rt: &HostRuntime,
+    program: &[u8],
+    what: &'a mut [u8],
+) -> Result<Request<'a, ()>, Told>
+    ensures { NameWithin result what.old }
 {
     if help_alone(rt) {
         return Ok(Request::Help);
@@ -137,8 +147,12 @@ fn first_number(rt: &HostRuntime, what: &mut [u8]) -> Option<u32> {
 }
 
 // The same of a program that takes a mark as its first argument, and the file's name as its second.
-pub fn asked_mark(rt: &HostRuntime, program: &[u8], what: &mut [u8]) -> Result<Request<u32>, Told>
-    ensures { NameWithin result what.new }
+pub fn asked_mark<'a>(
+    rt: &HostRuntime,
+    program: &[u8],
+    what: &'a mut [u8],
+) -> Result<Request<'a, u32>, Told>
+    ensures { NameWithin result what.old }
 {
     if help_alone(rt) {
         return Ok(Request::Help);

@@ -2,7 +2,8 @@
 ghost use Rattle.std.specs.Prelude.{◌≡◌};
 ghost use Rattle.command.specs.Number.{number_in};
 
-// Zeros in front are passed over. No text, another byte than a digit, or a number above 2^32 - 1: none.
+// Zeros in front are passed over. No text, another byte than a digit, or a number above 2^32 - 1: none. std's `parse` is no plainer: it takes a plus
+// in front too, and no bytes; nor is `to_digit`, which is a char's and counts letters too.
 pub fn read_number(text: &[u8]) -> Option<u32>
     ensures { result ≡ number_in text.now }
 {

@@ -31,7 +31,7 @@ impl Read for Source {
 #[derive(Clone, Copy, Debug, PartialEq, Eq)]
 pub struct Told;
 
-// Puts a value's text at the start of `text`, and says how long it is.
+// Puts a value's text at the start of `text`, and says how long it is: there is no heap for a String.
 fn put<D: Display + Drop>(text: &mut [u8; 256], value: D) -> usize
     ensures { result ≤ 256 }
 {
@@ -54,7 +54,8 @@ fn put_reason(text: &mut [u8; 256], error: &io::Error) -> usize
     }
 }
 
-// Tells a failure: what failed, as the caller names it, a colon and the reason.
+// Tells a failure: what failed, as the caller names it, a colon and the reason. `errors` and `what` go as two here and below: each caller names them
+// anew at each call, so that a struct of them would be made for that one call.
 pub fn fail<E: Write>(errors: &mut E, what: &[u8], error: io::Error) -> Told {
     let mut text = [0u8; 256];
     let end = put_reason(&mut text, &error);
@@ -65,7 +66,7 @@ pub fn fail<E: Write>(errors: &mut E, what: &[u8], error: io::Error) -> Told {
     Told
 }
 
-// The system's number for text in another coding.
+// The system's number for text in another coding; by an `ErrorKind` the text would not be the system's.
 const EILSEQ: i32 = 84;
 
 pub fn standard_input(rt: &HostRuntime) -> Source {
@@ -88,7 +89,7 @@ pub fn open<E: Write>(
         .map_err(|error| fail(errors, what, error))
 }
 
-// Reads what has come, at least a byte where the input has not ended. `what` is the program and the input's name.
+// Reads what has come, at least a byte where the input has not ended. A count comes back here and below, as from std's `read`. `what` is the program and the input's name.
 pub fn read<I: Read, E: Write>(
     input: &mut I,
     errors: &mut E,

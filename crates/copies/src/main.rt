@@ -13,7 +13,8 @@ use event::Refusal;
 use event::refusal::number;
 use std::convert::Infallible;
 use std::io;
-use tester::Reader;
+use std::num::NonZeroUsize;
+use tester::{Page, Reader};
 
 // A lesson's words start here in the program's own array.
 const START: usize = 3;
@@ -29,173 +30,153 @@ const BYTES: usize = 4112;
 
 const WORDS: usize = 1028;
 
-fn copy_lines(out: &mut [u8], at: usize, refusal: u32, written: usize, buffer: &[u32]) -> usize {
-    let end = tester::count_line(out, at, refusal, written);
-    tester::words_line(out, end, buffer)
+fn copy_lines(page: &mut Page<'_>, refusal: u32, written: usize, buffer: &[u32]) {
+    page.count_line(refusal, written);
+    page.words_line(buffer);
 }
 
-fn by_call(
-    out: &mut [u8],
-    at: usize,
-    mode: u32,
-    signs: u32,
-    words: &[u32],
-    buffer: &mut [u32],
-) -> usize {
+// Words and buffer stand apart, as the calls take them.
+fn by_call(page: &mut Page<'_>, mode: u32, signs: u32, words: &[u32], buffer: &mut [u32]) {
     let copied = copy::of_lesson(mode, signs, words, buffer);
     let refusal = number(&copied);
-    copy_lines(out, at, refusal, copied.unwrap_or(0), buffer)
+    copy_lines(page, refusal, copied.unwrap_or(0), buffer);
 }
 
-fn by_library(
-    out: &mut [u8],
-    at: usize,
-    settings: u32,
-    words: &[u32],
-    buffer: &mut [u32],
-) -> usize {
+fn by_library(page: &mut Page<'_>, settings: u32, words: &[u32], buffer: &mut [u32]) {
     let mut written = 99;
     let refusal = cruise::cruise_copy(settings, words, buffer, &mut written);
-    copy_lines(out, at, refusal, written, buffer)
+    copy_lines(page, refusal, written, buffer);
 }
 
-fn by_car(out: &mut [u8], at: usize, car: Car, words: &[u32], buffer: &mut [u32]) -> usize {
+fn by_car(page: &mut Page<'_>, car: Car, words: &[u32], buffer: &mut [u32]) {
     let copied = copy::from_car(car, words, buffer);
     let refusal = number(&copied);
     let part = copied.unwrap_or(Part {
         car: car,
         written: 0,
     });
-    let end = copy_lines(out, at, refusal, part.written, buffer);
-    tester::car_line(out, end, part.car)
+    copy_lines(page, refusal, part.written, buffer);
+    page.car_line(part.car);
 }
 
-// The next words of the input, behind their count, in a part of the program's own array.
+// The next words of the input, behind their count, in a part of the program's own array. This and `file` stand in `marks` too: in `tester` each
+// would need a contract longer than itself.
 fn lesson<'a>(words: &'a mut [u32; 3075], input: &mut Reader<'_>) -> &'a [u32] {
     let part = &mut words[START..START + input.size(MOST)];
     input.fill(part);
     part
 }
 
-fn settings_case(input: &mut Reader<'_>, out: &mut [u8], at: usize) -> usize {
+fn settings_case(input: &mut Reader<'_>, page: &mut Page<'_>) {
     let [mode, signs] = input.take::<2>();
     let room = input.size(MOST);
     let mut array = [0; 3075];
     let words = lesson(&mut array, input);
     let mut buffer = [UNUSED; MOST];
-    let end = by_call(out, at, mode, signs, words, &mut buffer[..room]);
+    by_call(page, mode, signs, words, &mut buffer[..room]);
     let mut other = [UNUSED; MOST];
     let settings = tester::settings_word(mode, signs);
-    by_library(out, end, settings, words, &mut other[..room])
+    by_library(page, settings, words, &mut other[..room]);
 }
 
-fn car_case(input: &mut Reader<'_>, out: &mut [u8], at: usize) -> usize {
+fn car_case(input: &mut Reader<'_>, page: &mut Page<'_>) {
     let car = tester::car_at(&input.take::<23>(), 0);
     let room = input.size(MOST);
     let mut array = [0; 3075];
     let words = lesson(&mut array, input);
     let mut buffer = [UNUSED; MOST];
-    by_car(out, at, car, words, &mut buffer[..room])
+    by_car(page, car, words, &mut buffer[..room]);
 }
 
 // One turn over a piece, its bytes put behind those of the clean file: how many bytes of the piece were used.
 #[tactic(auto, using(cleaning::proofs::PiecesLaws::end_within))]
-fn turn(car: &mut Car, piece: &[u8], clean: &mut [u8], count: &mut usize) -> usize {
-    let mut page = [0u8; 4096];
-    let turned = cleaning::turn(*car, piece, &mut page);
+fn turn(car: &mut Car, piece: &[u8], clean: &mut Page<'_>) -> usize {
+    let mut bytes = [0u8; 4096];
+    let turned = cleaning::turn(*car, piece, &mut bytes);
     *car = turned.car;
-    *count = tester::text(clean, *count, &page[0..turned.end]);
+    clean.text(&bytes[0..turned.end]);
     turned.used
 }
 
-// The clean file's bytes, piece by piece behind the settings word: how many there are, and the refusal of the file's end.
+// The clean file's bytes, piece by piece behind the settings word, and the refusal of the file's end.
 fn clean_pieces(
     first: Car,
     bytes: &[u8],
-    cut: usize,
-    clean: &mut [u8],
-) -> (usize, Result<(), Refusal>)
-    requires { 1 ≤ cut }
-{
+    cut: NonZeroUsize,
+    clean: &mut Page<'_>,
+) -> Result<(), Refusal> {
     let (settings, events) = bytes.split_at(bytes.len().min(4));
     let mut car = first;
-    let mut count = tester::text(clean, 0, settings);
-    let Ok(left) = tester::pieces(events, cut, |piece| {
-        Ok::<usize, Infallible>(turn(&mut car, piece, clean, &mut count))
+    clean.text(settings);
+    let Ok(left) = tester::pieces(events, cut.get(), |piece| {
+        Ok::<usize, Infallible>(turn(&mut car, piece, clean))
     });
-    (count, cleaning::close(left))
+    cleaning::close(left)
 }
 
-fn clean_file(bytes: &[u8], cut: usize, clean: &mut [u8]) -> (usize, Result<(), Refusal>)
-    requires { 1 ≤ cut }
-{
-    match cleaning::open(bytes) {
-        Ok(car) => clean_pieces(car, bytes, cut, clean),
-        Err(refusal) => (0, Err(refusal)),
-    }
+fn clean_file(bytes: &[u8], cut: NonZeroUsize, clean: &mut Page<'_>) -> Result<(), Refusal> {
+    let car = cleaning::open(bytes)?;
+    clean_pieces(car, bytes, cut, clean)
 }
 
 #[tactic(auto, unfolding(wire::specs::Wire::words_count))]
-fn clean_lines(out: &mut [u8], at: usize, refusal: u32, clean: &[u8]) -> usize {
+fn clean_lines(page: &mut Page<'_>, refusal: u32, clean: &[u8]) {
     let mut words = [0; WORDS];
     let n = wire::words_of(clean, &mut words);
-    copy_lines(out, at, refusal, n, &words[..n])
+    copy_lines(page, refusal, n, &words[..n]);
 }
 
-// The file whose length and bytes are the next of the input: its length.
-fn file(bytes: &mut [u8; BYTES], input: &mut Reader<'_>) -> usize
-    ensures { result ≤ 4112 }
-{
+// The file whose length and bytes are the next of the input.
+fn file<'a>(bytes: &'a mut [u8; BYTES], input: &mut Reader<'_>) -> &'a [u8] {
     let length = input.size(BYTES);
     let mut words = [0; WORDS];
     let part = &mut words[..length.div_ceil(4)];
     input.fill(part);
     wire::bytes_of(part, bytes);
-    length
+    &bytes[..length]
 }
 
-// A file whose bytes are lent.
-fn clean_bytes(out: &mut [u8], at: usize, bytes: &[u8], cut: usize) -> usize
-    requires { 1 ≤ cut }
-{
-    let mut clean = [0u8; BYTES];
-    let (count, closed) = clean_file(bytes, cut, &mut clean);
-    let Some(file) = clean.get(..count) else {
-        return at;
-    };
-    clean_lines(out, at, number(&closed), file)
+// A file whose bytes are lent. Bytes and cut stand apart, as `tester::pieces` takes them.
+fn clean_bytes(page: &mut Page<'_>, bytes: &[u8], cut: NonZeroUsize) {
+    let mut array = [0u8; BYTES];
+    let mut clean = Page::new(&mut array);
+    let closed = clean_file(bytes, cut, &mut clean);
+    let Page { out, at } = clean;
+    if let Some(file) = out.get(..at) {
+        clean_lines(page, number(&closed), file);
+    }
 }
 
 // A file; pieces of no byte are no case.
-fn clean_case(input: &mut Reader<'_>, out: &mut [u8], at: usize) -> usize {
-    let cut = input.size(4096);
-    if cut == 0 {
-        return at;
-    }
+fn clean_case(input: &mut Reader<'_>, page: &mut Page<'_>) {
+    let Some(cut) = NonZeroUsize::new(input.size(4096)) else {
+        return;
+    };
     let mut bytes = [0u8; BYTES];
-    let length = file(&mut bytes, input);
-    clean_bytes(out, at, &bytes[..length], cut)
+    clean_bytes(page, file(&mut bytes, input), cut);
 }
 
-fn case(kind: u32, input: &mut Reader<'_>, out: &mut [u8], at: usize) -> usize {
+// A kind is the input's own number: an enum would name each case a second time.
+fn case(kind: u32, input: &mut Reader<'_>, page: &mut Page<'_>) {
     match kind {
-        1 => settings_case(input, out, at),
-        2 => car_case(input, out, at),
-        _ => clean_case(input, out, at),
+        1 => settings_case(input, page),
+        2 => car_case(input, page),
+        _ => clean_case(input, page),
     }
 }
 
-fn cases(words: &[u32], out: &mut [u8]) -> usize {
-    tester::cases(words, out, case)
+fn cases(words: &[u32], page: &mut Page<'_>) {
+    tester::cases(words, page, case);
 }
 
 fn main(rt: HostRuntime) -> io::Result<()> {
     let mut words = [0; 16384];
     let mut out = vec![in rt.alloc(); 0u8; 524288]?;
+    let mut page = Page::new(out.as_mut_slice());
     tester::run(
         &rt,
         &mut words,
-        out.as_mut_slice(),
+        &mut page,
         b"copies: standard input",
         b"copies: standard output",
         cases,

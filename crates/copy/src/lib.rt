@@ -1,5 +1,6 @@
 // A clean copy of a lesson (document 02, §2): its accepted words, in order, in a lent buffer. Which words are accepted is read from the answer
-// words of a lesson, part by part. Nothing is written before it is known that all fit.
+// words of a lesson, part by part. Nothing is written before it is known that all fit. The words and the buffer are lent beside each other, as C lends
+// them, and there is no heap for a Vec of the copy: the count of what was written comes out.
 #![tactic(auto, using(kit::specs::Pick::picks))]
 
 ghost use Rattle.std.specs.Prelude.{true, ◌≡◌, ◌+◌, ◌≤◌, ltb, length};
@@ -25,7 +26,8 @@ pub struct Part {
 // So many words are driven at a time.
 const PART: usize = 1024;
 
-// 19 where the words that a good car accepts are more than there is room for. Looks no further than is needed to know.
+// 19 where the words that a good car accepts are more than there is room for. Looks no further than is needed to know. That the car is good stands in
+// the `requires`: a lesson takes any car and gives a plain one.
 fn fits(first: Car, words: &[u32], room: usize) -> Result<(), Refusal>
     requires { good_of first ≡ true }
     ensures { number result ≡ pick (ltb room (length (accepted_words first words.now))) 19 0 }
@@ -49,7 +51,8 @@ fn fits(first: Car, words: &[u32], room: usize) -> Result<(), Refusal>
     Ok(())
 }
 
-// A word into the copy at an index, if its answer holds no refusal; gives the index past it.
+// A word into the copy at an index, if its answer holds no refusal, which is a number in any word; gives the index past it. As adapters, a filter of
+// words and answers zipped with the places of the copy, it would be no plainer.
 #[tactic(auto, using(kit::specs::Pick::picks, kit::specs::Placed::placed_one, kit::specs::Placed::placed_nothing), unfolding(crate::specs::CopyShape::sifted_word))]
 fn sift_word(word: u32, answer: u32, copy: &mut [u32], at: usize) -> usize
     requires { at + length (sifted_word word answer) ≤ length copy.old }
@@ -74,7 +77,8 @@ fn sift(words: &[u32], answers: &[u32], copy: &mut [u32], at: usize)
     }
 }
 
-// The accepted words of a part, by how many were refused and by the answers, from an index on.
+// The accepted words of a part, by how many were refused and by the answers, from an index on. Copy and index go in together: the loop's invariant
+// is of the whole copy, and of a part lent out it would have to be put together again.
 #[tactic(auto, using(crate::proofs::Parts::put_whole))]
 fn put(refused: usize, words: &[u32], answers: &[u32], copy: &mut [u32], at: usize)
     requires { (refused ≡ 0 → sifted words.now answers.now ≡ words.now) × (at + length (sifted words.now answers.now) ≤ length copy.old) }

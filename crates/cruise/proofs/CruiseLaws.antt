@@ -10,6 +10,7 @@ use Rattle.kit.specs.Pick.{pick, pick_true, pick_false, pick_case}
 use Rattle.event.specs.declared.refusal.Refusal.{Refusal}
 use Rattle.event.specs.Refusal.{refusal_number, answer, number}
 use Rattle.event.proofs.RefusalLaws.{number_pos}
+use Rattle.sighting.proofs.SightingLaws.{given_refused}
 use Rattle.passing.specs.declared.Marked as marked
 use Rattle.passing.specs.Passing.{Marked, event_number, mark_answer, mark_of}
 use Rattle.answer.specs.declared.Answer as answerdata
@@ -107,13 +108,10 @@ refusal_first (Ok c) n a e = rw (← e) (sym (pick_true _ _ _ refl))
 refusal_first (Err r) n a e = rw (← e) (sym (pick_false _ _ _ (ne_eqb _ _ (number_pos r _ refl))))
 
 -- ---- a sighting is driven by its event's word, and with none the record is only tested
-no_answer : {P : Type 0} {A : Type 0} (a : A) (n : ℕ) → gives a ≡ refused n → P
-no_answer a n e = let z : ◌≡◌ {A = ℕ} 0 1 = cc e in absurd (omega arith)
-
 module _ (words : List ℕ) where
   pub see_driven : (a : Answer Sighting) (w : ℕ) → handed_word a ≡ gives (Some w) → drive_left words (read_of words) w ≡ see_left words (read_of words) a
   unfolding handed_word drive_left see_left
-  see_driven (refused n) w h = no_answer (Some w) n (sym h)
+  see_driven (refused n) w h = absurd (given_refused n (sym h))
   see_driven (gives s) w h = go (read_of words)
     where
       go : (r : Answer Car) → drive_left words r w ≡ see_left words r (gives s)
@@ -131,7 +129,7 @@ module _ (words : List ℕ) where
   pub see_fault : (a : Answer Sighting) → handed_word a ≡ gives None
       → ◌≡◌ {A = Left} (record { refusal = number_of (read_of words); words = words }) (see_left words (read_of words) a)
   unfolding handed_word see_left number_of
-  see_fault (refused n) h = no_answer None n (sym h)
+  see_fault (refused n) h = absurd (given_refused n (sym h))
   see_fault (gives s) h = go (read_of words) refl
     where
       go : (r : Answer Car) → read_of words ≡ r → ◌≡◌ {A = Left} (record { refusal = number_of r; words = words }) (see_left words r (gives s))

@@ -1,5 +1,6 @@
 // The car for programs in other languages (c/cruise.h). A car crosses as the twelve words of its record; every function gives the
 // refusal's number, or 0. Parameters are named as there; in a contract `record` is `«record»`, for antt has a word `record` of its own.
+// What C can hand over is slices beside each other, kinds and refusals by number, and a place for each figure, with 0 for none.
 #![tactic(auto, using(kit::specs::Pick::picks))]
 
 ghost use Rattle.std.specs.Prelude.{◌≡◌, ◌≤◌, false};
@@ -172,7 +173,7 @@ pub fn cruise_mark(
     }
 }
 
-// A sighting by its kind's number, as C hands it over.
+// A sighting by its kind's number and two figures, as C hands them over: this is where the three become one value.
 #[tactic(auto, using(kit::specs::Pick::picks), unfolding(crate::specs::Cruise::sighting_of, kit::specs::Pick::pick))]
 fn sighting(kind: u32, metres: f32, kmh: f32) -> Result<Sighting, Refusal>
     ensures { answer result ≡ sighting_of kind metres kmh }

@@ -1,4 +1,5 @@
-// The car for C (crates/cruise/c/cruise.h): each function is that of its name in `cruise`, under the same contract.
+// The car for C (crates/cruise/c/cruise.h): each function is that of its name in `cruise`, under the same contract. Each stands in both, since no
+// crate can stand on a static library; slices, kinds and refusals are as C hands them over.
 #![tactic(auto)]
 
 ghost use Rattle.std.specs.Prelude.{◌≡◌};

@@ -6,7 +6,7 @@
 // alike and whether the words before the call are alike.
 #![tactic(auto)]
 
-use tester::Reader;
+use tester::{Page, Reader};
 
 // A lesson's words start here in the program's own array.
 const START: usize = 3;
@@ -18,60 +18,51 @@ const MOST: usize = 16;
 const UNUSED: u32 = 0xDEAD_BEEF;
 
 // The sign of a number, 1 below 0, and its size, held to 99.
-fn signed(out: &mut [u8], at: usize, n: i32) -> usize {
-    tester::numbers(out, at, &[event::bit(n < 0), n.unsigned_abs().min(99)])
+fn signed(page: &mut Page<'_>, n: i32) {
+    page.numbers(&[event::bit(n < 0), n.unsigned_abs().min(99)]);
 }
 
-fn fresh(words: &mut [u32], input: &mut Reader<'_>, out: &mut [u8], at: usize) -> usize {
+// Words, input and page stand apart: each call is lent another part of the words, and `tester::cases` hands over input and page anew.
+fn fresh(words: &mut [u32], input: &mut Reader<'_>, page: &mut Page<'_>) {
     let [mode, signs] = input.take::<2>();
     let refusal = cruise::cruise_fresh(tester::settings_word(mode, signs), words);
-    tester::words_line(out, at, &[refusal])
+    page.words_line(&[refusal]);
 }
 
-fn drive(words: &mut [u32], input: &mut Reader<'_>, out: &mut [u8], at: usize) -> usize {
+fn drive(words: &mut [u32], input: &mut Reader<'_>, page: &mut Page<'_>) {
     let refusal = cruise::cruise_drive(words, input.next());
-    tester::words_line(out, at, &[refusal])
+    page.words_line(&[refusal]);
 }
 
 // A lesson with as many answers as it is lent.
-fn teach(
-    words: &mut [u32],
-    events: &[u32],
-    answers: &mut [u32],
-    out: &mut [u8],
-    at: usize,
-) -> usize {
+fn teach(words: &mut [u32], events: &[u32], answers: &mut [u32], page: &mut Page<'_>) {
     let mut accepted = 99;
     let mut refused = 99;
     let refusal = cruise::cruise_lesson(words, events, answers, &mut accepted, &mut refused);
-    tester::lesson_line(out, at, refusal, accepted, refused)
+    page.lesson_line(refusal, accepted, refused);
 }
 
-fn lesson(words: &mut [u32], input: &mut Reader<'_>, out: &mut [u8], at: usize) -> usize {
+fn lesson(words: &mut [u32], input: &mut Reader<'_>, page: &mut Page<'_>) {
     let room = input.size(MOST);
     let last = START + input.size(MOST);
     let mut events = [UNUSED; 20];
     let mut answers = [UNUSED; MOST];
     input.fill(&mut events[START..last]);
-    let end = teach(words, &events[START..last], &mut answers[..room], out, at);
-    tester::words_line(out, end, &answers)
+    teach(words, &events[START..last], &mut answers[..room], page);
+    page.words_line(&answers);
 }
 
-fn set(words: &mut [u32], input: &mut Reader<'_>, at: usize) -> usize {
-    input.fill(words);
-    at
-}
-
-fn call(kind: u32, words: &mut [u32], input: &mut Reader<'_>, out: &mut [u8], at: usize) -> usize {
+// A kind is the input's own number: an enum would name each case a second time.
+fn call(kind: u32, words: &mut [u32], input: &mut Reader<'_>, page: &mut Page<'_>) {
     match kind {
-        1 => set(words, input, at),
-        2 => fresh(words, input, out, at),
-        3 => drive(words, input, out, at),
-        _ => lesson(words, input, out, at),
+        1 => input.fill(words),
+        2 => fresh(words, input, page),
+        3 => drive(words, input, page),
+        _ => lesson(words, input, page),
     }
 }
 
-fn figures(out: &mut [u8], at: usize, words: &[u32]) -> usize {
+fn figures(page: &mut Page<'_>, words: &[u32]) {
     let mut speed = UNUSED;
     let mut desired = UNUSED;
     let mut acceleration = 99;
@@ -87,61 +78,55 @@ fn figures(out: &mut [u8], at: usize, words: &[u32]) -> usize {
         &mut acoustic,
         &mut distance,
     );
-    let mut end = tester::numbers(out, at, &[refusal, speed, desired]);
-    end = signed(out, end, acceleration);
-    tester::numbers(out, end, &[visual, acoustic, distance])
+    page.numbers(&[refusal, speed, desired]);
+    signed(page, acceleration);
+    page.numbers(&[visual, acoustic, distance]);
 }
 
-fn alike(out: &mut [u8], at: usize, words: &[u32], before: &[u32]) -> usize {
+fn alike(page: &mut Page<'_>, words: &[u32], before: &[u32]) {
     let mut answer = UNUSED;
     let refusal = cruise::cruise_alike(words, before, &mut answer);
-    tester::numbers(out, at, &[refusal, answer])
+    page.numbers(&[refusal, answer]);
 }
 
-fn questions(out: &mut [u8], at: usize, words: &[u32], before: &[u32]) -> usize {
-    let mut end = tester::number(out, at, cruise::cruise_test(words));
-    end = figures(out, end, words);
-    end = alike(out, end, words, before);
-    tester::end_line(out, end)
+fn questions(page: &mut Page<'_>, words: &[u32], before: &[u32]) {
+    page.number(cruise::cruise_test(words));
+    figures(page, words);
+    alike(page, words, before);
+    page.end_line();
 }
 
 // The words, where the library was lent them to change.
-fn show(out: &mut [u8], at: usize, kind: u32, words: &[u32]) -> usize {
+fn show(page: &mut Page<'_>, kind: u32, words: &[u32]) {
     if kind > 1 {
-        return tester::words_line(out, at, words);
+        page.words_line(words);
     }
-    at
 }
 
 // A call over the first words, what the library left of them all, and its answers about the first.
-fn report(
-    kind: u32,
-    words: &mut [u32; 13],
-    input: &mut Reader<'_>,
-    out: &mut [u8],
-    at: usize,
-) -> usize {
+fn report(kind: u32, words: &mut [u32; 13], input: &mut Reader<'_>, page: &mut Page<'_>) {
     let size = input.size(13);
     let before = *words;
-    let mut end = call(kind, &mut words[..size], input, out, at);
-    end = show(out, end, kind, &words[..]);
-    questions(out, end, &words[..size], &before[..size])
+    call(kind, &mut words[..size], input, page);
+    show(page, kind, &words[..]);
+    questions(page, &words[..size], &before[..size]);
 }
 
-fn calls(input: &[u32], out: &mut [u8]) -> usize {
+fn calls(input: &[u32], page: &mut Page<'_>) {
     let mut words = [UNUSED; 13];
-    tester::cases(input, out, |kind, input, out, at| {
-        report(kind, &mut words, input, out, at)
-    })
+    tester::cases(input, page, |kind, input, page| {
+        report(kind, &mut words, input, page)
+    });
 }
 
 fn main(rt: HostRuntime) {
     let mut words = [0; 16384];
     let mut out = [0; 131072];
+    let mut page = Page::new(&mut out);
     tester::run(
         &rt,
         &mut words,
-        &mut out,
+        &mut page,
         b"cruise_calls: standard input",
         b"cruise_calls: standard output",
         calls,

@@ -1,5 +1,6 @@
 // The desired speed over plain numbers (document 01, "Rules of each event"): D by the up-down lever, moved and held, and by a sign; E.
-// `top` is the ceiling of D.
+// `top` is the ceiling of D. A position stays a number, and D, B and h stay parameters: an open call takes any u32, a position above 4 as 4,
+// and the laws vary the numbers one by one. An E of 0 is none, as in a record: an Option would have Some(0) for it too.
 #![tactic(auto, using(kit::specs::Pick::picks))]
 
 ghost use Rattle.std.specs.Prelude.{◌≡◌, ◌+◌, ◌-◌, min, max};

@@ -14,6 +14,7 @@ pub mod refusal;
 pub use refusal::Refusal;
 
 // What the pupil, the signs and the radar do: nine of the ten kinds of event, with the values that a word of the kind holds.
+// A value is any u32: what lies outside its range is refused where the event is written.
 #[derive(Clone, Copy)]
 pub enum Input {
     Key { position: u32, ready: bool },
@@ -86,7 +87,7 @@ fn read_tick(word: u32) -> Result<Event, Refusal>
     })
 }
 
-// The input of a word, or its refusal, for a word that is no tick.
+// The input of a word, or its refusal, for a word that is no tick. No `TryFrom`: of a tick's word it says that there is no such kind.
 #[tactic(auto, using(kit::specs::Pick::picks), unfolding(crate::specs::Words::input_of))]
 pub fn read_input(word: u32) -> Result<Input, Refusal>
     ensures { answer result ≡ input_of word }
@@ -94,7 +95,7 @@ pub fn read_input(word: u32) -> Result<Input, Refusal>
     read_kind(word / KIND, word % KIND)
 }
 
-// The kinds beside the tick.
+// The kinds beside the tick: here the numbers of a word become the enum.
 #[tactic(auto, using(kit::specs::Pick::picks), unfolding(crate::specs::Words::inputs_of, crate::specs::Words::key_on_of))]
 fn read_kind(kind: u32, body: u32) -> Result<Input, Refusal>
     ensures { answer result ≡ inputs_of kind body }
@@ -113,7 +114,7 @@ fn read_kind(kind: u32, body: u32) -> Result<Input, Refusal>
     }
 }
 
-// The kind number of an input.
+// The kind number of an input: check 4 names its kinds by a range of numbers.
 #[tactic(auto, using(kit::specs::Pick::picks), unfolding(crate::specs::Words::input_kind))]
 pub fn kind(input: Input) -> u32
     ensures { result ≡ input_kind input }
@@ -250,7 +251,7 @@ fn input_word(input: Input) -> u32
     }
 }
 
-// A flag as a bit.
+// A flag as a bit: `u32::from`, with what the writers of words ask of it.
 #[tactic(auto, using(kit::specs::Pick::picks), unfolding(crate::specs::Words::bit_of))]
 pub fn bit(flag: bool) -> u32
     ensures { (result ≡ bit_of flag) × (result ≤ 1) }

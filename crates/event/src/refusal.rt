@@ -43,7 +43,7 @@ impl From<Refusal> for u32 {
     }
 }
 
-// The number of what was refused, 0 for none.
+// The number of what was refused, 0 for none: what C is told.
 pub fn number<T>(outcome: &Result<T, Refusal>) -> u32
     ensures { result ≡ number outcome.now }
 {

@@ -2,34 +2,34 @@
 // written as the same word again (or if it was refused), else 0.
 #![tactic(auto)]
 
-use event::{Event, Refusal};
+use event::Event;
+use tester::Page;
 
 fn same(word: u32, event: Event) -> bool {
     u32::try_from(event) == Ok(word)
 }
 
-fn line(out: &mut [u8], at: usize, word: u32) -> usize {
-    let read: Result<Event, Refusal> = Event::try_from(word);
-    let end = tester::number(out, at, event::refusal::number(&read));
+fn line(page: &mut Page<'_>, word: u32) {
+    let read = Event::try_from(word);
+    page.number(event::refusal::number(&read));
     let kept = read.map_or(true, |event| same(word, event));
-    tester::last(out, end, event::bit(kept))
+    page.last(event::bit(kept));
 }
 
-fn lines(words: &[u32], out: &mut [u8]) -> usize {
-    let mut end = 0;
+fn lines(words: &[u32], page: &mut Page<'_>) {
     for word in words {
-        end = line(out, end, *word);
+        line(page, *word);
     }
-    end
 }
 
 fn main(rt: HostRuntime) {
     let mut words = [0; 16384];
     let mut out = [0; 131072];
+    let mut page = Page::new(&mut out);
     tester::run(
         &rt,
         &mut words,
-        &mut out,
+        &mut page,
         b"event_words: standard input",
         b"event_words: standard output",
         lines,

@@ -27,7 +27,9 @@ pub enum Stage {
     Ended,
 }
 
-// What a turn gives: the stage behind it, how many of its bytes it used, and where its text ends.
+// What a turn gives: the stage behind it, how many of its bytes it used, and where its text ends in the lent slice, since there is no heap for a
+// String. `cleaning` has one with a car for the stage: in a `Turned<S>` for both the laws of the two (specs/Pieces.antt) would say `behind`, where
+// `stage` and `car` say what it is.
 #[derive(Clone, Copy)]
 pub struct Turned {
     pub stage: Stage,
@@ -36,7 +38,8 @@ pub struct Turned {
 }
 
 // A turn drives at most so many words, and needs so many bytes for its text: 64 for each, and for the head line.
-// Room is tested by a slice's length: of an array lent by `first_chunk_mut` no call says that it keeps its length, so that every contract would.
+// That `out` has room stands in the `requires` of the functions below: were it an array (`first_chunk_mut`), the contract of each would have to say
+// that its length stays.
 const WORDS: usize = 1024;
 
 const ROOM: usize = 65600;
@@ -60,6 +63,7 @@ fn drive_words(place: Place, words: &[u32], out: &mut [u8]) -> Turned
     let Some(number) = place.number.checked_add(words.len() as u64) else {
         return nothing_done(Stage::Driving(place));
     };
+    // Two arrays, as `trace` fills them and `put_lines` takes them.
     let mut answers = [0; WORDS];
     let mut speeds = [0; WORDS];
     let Ok(taught) = place.car.trace(words, &mut answers, &mut speeds) else {
@@ -76,6 +80,7 @@ fn drive_words(place: Place, words: &[u32], out: &mut [u8]) -> Turned
 }
 
 // The events of some bytes.
+#[tactic(auto, using(kit::specs::Pick::picks), unfolding(wire::specs::Wire::words_count))]
 fn drive_bytes(place: Place, bytes: &[u8], out: &mut [u8]) -> Turned
     requires { 65536 ≤ length out.old }
     ensures { (result ≡ answered_at 0 (events_turn place bytes.now)) × (out.new ≡ placed out.old 0 (events_turn place bytes.now).text) }
@@ -165,7 +170,7 @@ pub fn close(stage: Stage, held: usize, out: &mut [u8]) -> usize
     listing::put_refused(out, 0, u32::from(refusal))
 }
 
-// Moves the bytes that a turn did not use to the front, and counts them.
+// Moves the bytes that a turn did not use to the front, and counts them: there is no heap for a Vec, whose `drain` would do it.
 pub fn keep(bytes: &mut [u8], used: usize) -> usize
     ensures { (result ≡ length (drop used bytes.old)) × (bytes.new ≡ drop used bytes.old ++ drop result bytes.old) }
 {

@@ -64,5 +64,5 @@ fn list(pipe: &mut Pipe) -> Result<(), Told> {
 fn main(rt: HostRuntime) {
     let mut what = [0; 4104];
     let request = command::asked(&rt, b"lesson: ", &mut what);
-    let _ = pieces::answer(&rt, TEXTS, request, &what, |_, pipe| list(pipe));
+    let _ = pieces::answer(&rt, TEXTS, request, |_, pipe| list(pipe));
 }

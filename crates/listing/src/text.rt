@@ -1,4 +1,4 @@
-// A text, a number, and a line of both at an index of a slice.
+// A text, a number, and a line of both at an index of a slice; no struct has these two (lib.rt).
 ghost use Rattle.std.specs.Prelude.{◌≡◌, ◌+◌, leb, length};
 ghost use Rattle.listing.specs.Listing.{decimal_of, number_line, refused_text, put_past, put_after};
 
@@ -44,7 +44,7 @@ pub fn put_number_line(out: &mut [u8], at: usize, name: &[u8], n: u64) -> usize
     put_text(out, end, b"\n")
 }
 
-// "refused", a refusal's number and the end of the line. Room is 29 bytes.
+// "refused", a refusal's number and the end of the line. Room is 29 bytes. Any number is taken: a `Refusal` would ask more of callers.
 #[tactic(auto, using(kit::specs::Pick::picks), unfolding(crate::specs::Listing::ascii, crate::specs::Listing::refused_text))]
 pub fn put_refused(out: &mut [u8], at: usize, refusal: u32) -> usize
     ensures { (result ≡ put_past out.old at 29 (refused_text refusal)) × (out.new ≡ put_after out.old at 29 (refused_text refusal)) }

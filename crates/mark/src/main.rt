@@ -47,10 +47,6 @@ impl Work for Search {
             end: 0,
         }
     }
-
-    fn has_ended(&self) -> bool {
-        false
-    }
 }
 
 // The line of a refused settings word.
@@ -74,6 +70,7 @@ fn mark_events(pipe: &mut Pipe, mark: u32, car: Car) -> Result<(), Told> {
     pipe.write(&text[0..end])
 }
 
+// As `clean` opens its file.
 fn mark_file(pipe: &mut Pipe, mark: u32) -> Result<(), Told> {
     let mut first = [0; 4];
     let count = pipe.read_all(&mut first)?;
@@ -86,11 +83,5 @@ fn mark_file(pipe: &mut Pipe, mark: u32) -> Result<(), Told> {
 fn main(rt: HostRuntime) {
     let mut what = [0; 4104];
     let request = command::asked_mark(&rt, b"mark: ", &mut what);
-    let _ = pieces::answer(
-        &rt,
-        TEXTS,
-        request,
-        &what,
-        |mark, pipe| mark_file(pipe, mark),
-    );
+    let _ = pieces::answer(&rt, TEXTS, request, |mark, pipe| mark_file(pipe, mark));
 }

@@ -23,6 +23,8 @@ pub struct Stage {
     seconds: usize,
 }
 
+// The mark goes beside the stage and not into it: it is the same for all stages, and each turn would have to say that it stays.
+
 // What a turn gives: the stage behind it, and how many of its bytes it used.
 #[derive(Clone, Copy)]
 pub struct Turned {
@@ -92,6 +94,7 @@ fn further(stage: Stage, words: &[u32], mark: u32) -> Option<Stage>
 }
 
 // One turn over the bytes that have come and were not used.
+#[tactic(auto, using(kit::specs::Pick::picks), unfolding(wire::specs::Wire::words_count))]
 pub fn turn(stage: Stage, bytes: &[u8], mark: u32) -> Turned
     ensures { result ≡ turn_of mark stage bytes.now }
 {
@@ -109,6 +112,8 @@ pub fn turn(stage: Stage, bytes: &[u8], mark: u32) -> Turned
     }
 }
 
+// Texts go at an index of the slice, and the index past them comes out, as in `listing`, which puts them; a struct of both would be made and taken
+// apart for the three.
 fn put_passed(out: &mut [u8], at: usize, passed: Option<usize>) -> usize
     requires { at + 27 ≤ length out.old }
     ensures { Put out.old at (passed_text passed) 27 out.new result }
@@ -119,6 +124,7 @@ fn put_passed(out: &mut [u8], at: usize, passed: Option<usize>) -> usize
     }
 }
 
+// As `put_refused` of `listing` by `put_number_line`, which is what the two share.
 fn put_seconds(out: &mut [u8], at: usize, seconds: usize) -> usize
     requires { at + 29 ≤ length out.old }
     ensures { Put out.old at (seconds_text seconds) 29 out.new result }

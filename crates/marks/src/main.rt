@@ -12,7 +12,8 @@ use event::refusal::number;
 use marking::Stage;
 use passing::{Counted, Marked};
 use std::convert::Infallible;
-use tester::Reader;
+use std::num::NonZeroUsize;
+use tester::{Page, Reader};
 
 // A lesson's words start here in the program's own array.
 const START: usize = 3;
@@ -25,14 +26,15 @@ const BYTES: usize = 4112;
 
 const WORDS: usize = 1028;
 
-fn by_library(out: &mut [u8], at: usize, record: &[u32], words: &[u32], mark: u32) -> usize {
+// Words and mark stand apart, as the calls take them.
+fn by_library(page: &mut Page<'_>, record: &[u32], words: &[u32], mark: u32) {
     let mut event = 99;
     let mut seconds = 99;
     let refusal = cruise::cruise_mark(record, words, mark, &mut event, &mut seconds);
-    tester::lesson_line(out, at, refusal, event, seconds)
+    page.lesson_line(refusal, event, seconds);
 }
 
-fn by_lesson(out: &mut [u8], at: usize, car: Car, words: &[u32], mark: u32) -> usize {
+fn by_lesson(page: &mut Page<'_>, car: Car, words: &[u32], mark: u32) {
     let answer = passing::of_lesson(car, words, mark);
     let refusal = number(&answer);
     let marked = answer.unwrap_or(Marked {
@@ -41,62 +43,63 @@ fn by_lesson(out: &mut [u8], at: usize, car: Car, words: &[u32], mark: u32) -> u
         seconds: 0,
     });
     let event = marked.passed.unwrap_or(0);
-    let end = tester::lesson_line(out, at, refusal, event, marked.seconds);
-    tester::car_line(out, end, marked.car)
+    page.lesson_line(refusal, event, marked.seconds);
+    page.car_line(marked.car);
 }
 
-fn by_search(out: &mut [u8], at: usize, car: Car, words: &[u32], mark: u32) -> usize {
+fn by_search(page: &mut Page<'_>, car: Car, words: &[u32], mark: u32) {
     let answer = passing::search(car, words, mark);
     let refusal = number(&answer);
     let passed = answer.unwrap_or(None);
-    tester::count_line(out, at, refusal, passed.unwrap_or(0))
+    page.count_line(refusal, passed.unwrap_or(0));
 }
 
-fn by_seconds(out: &mut [u8], at: usize, car: Car, words: &[u32], mark: u32) -> usize {
+fn by_seconds(page: &mut Page<'_>, car: Car, words: &[u32], mark: u32) {
     let answer = passing::seconds(car, words, mark);
     let refusal = number(&answer);
     let counted = answer.unwrap_or(Counted {
         car: car,
         seconds: 0,
     });
-    tester::count_line(out, at, refusal, counted.seconds)
+    page.count_line(refusal, counted.seconds);
 }
 
-fn by_calls(out: &mut [u8], at: usize, car: Car, words: &[u32], mark: u32) -> usize {
-    let first = by_lesson(out, at, car, words, mark);
-    let second = by_search(out, first, car, words, mark);
-    by_seconds(out, second, car, words, mark)
+fn by_calls(page: &mut Page<'_>, car: Car, words: &[u32], mark: u32) {
+    by_lesson(page, car, words, mark);
+    by_search(page, car, words, mark);
+    by_seconds(page, car, words, mark);
 }
 
-// The next words of the input, behind their count, in a part of the program's own array.
+// The next words of the input, behind their count, in a part of the program's own array. This and `file` stand in `copies` too: in `tester` each
+// would need a contract longer than itself.
 fn lesson<'a>(words: &'a mut [u32; 3075], input: &mut Reader<'_>) -> &'a [u32] {
     let part = &mut words[START..START + input.size(MOST)];
     input.fill(part);
     part
 }
 
-fn record_case(input: &mut Reader<'_>, out: &mut [u8], at: usize) -> usize {
+fn record_case(input: &mut Reader<'_>, page: &mut Page<'_>) {
     let mark = input.next();
     let mut array = [0; 13];
     let record = &mut array[..input.size(13)];
     input.fill(record);
     let mut words = [0; 3075];
-    by_library(out, at, record, lesson(&mut words, input), mark)
+    by_library(page, record, lesson(&mut words, input), mark);
 }
 
-fn car_case(input: &mut Reader<'_>, out: &mut [u8], at: usize) -> usize {
+fn car_case(input: &mut Reader<'_>, page: &mut Page<'_>) {
     let car = tester::car_at(&input.take::<23>(), 0);
     let mark = input.next();
     let mut words = [0; 3075];
-    by_calls(out, at, car, lesson(&mut words, input), mark)
+    by_calls(page, car, lesson(&mut words, input), mark);
 }
 
 // The text at the end of a file, after which so many bytes were not used.
 #[tactic(auto, using(exercise::proofs::PiecesLaws::text_within))]
-fn finish(out: &mut [u8], at: usize, stage: Stage, held: usize) -> usize {
+fn finish(page: &mut Page<'_>, stage: Stage, held: usize) {
     let mut text = [0u8; 85];
     let end = marking::put_result(stage, held, &mut text);
-    tester::text(out, at, &text[0..end])
+    page.text(&text[0..end]);
 }
 
 // A turn over a piece: how many bytes of it were used.
@@ -107,68 +110,62 @@ fn turn(stage: &mut Stage, piece: &[u8], mark: u32) -> usize {
 }
 
 // A file's text, by the bytes behind its settings word.
-fn mark_pieces(out: &mut [u8], at: usize, car: Car, events: &[u8], cut: usize, mark: u32) -> usize
-    requires { 1 ≤ cut }
-{
+fn mark_pieces(page: &mut Page<'_>, car: Car, events: &[u8], cut: NonZeroUsize, mark: u32) {
     let mut stage = marking::start(car);
-    let Ok(left) = tester::pieces(events, cut, |piece| {
+    let Ok(left) = tester::pieces(events, cut.get(), |piece| {
         Ok::<usize, Infallible>(turn(&mut stage, piece, mark))
     });
-    finish(out, at, stage, left)
+    finish(page, stage, left);
 }
 
-fn mark_file(out: &mut [u8], at: usize, bytes: &[u8], cut: usize, mark: u32) -> usize
-    requires { 1 ≤ cut }
-{
+fn mark_file(page: &mut Page<'_>, bytes: &[u8], cut: NonZeroUsize, mark: u32) {
     match cleaning::open(bytes) {
-        Ok(car) => mark_pieces(out, at, car, bytes.get(4..).unwrap_or(&[]), cut, mark),
-        Err(refusal) => listing::put_refused(out, at, u32::from(refusal)),
+        Ok(car) => mark_pieces(page, car, bytes.get(4..).unwrap_or(&[]), cut, mark),
+        Err(refusal) => page.at = listing::put_refused(page.out, page.at, u32::from(refusal)),
     }
 }
 
-// The file whose length and bytes are the next of the input: its length.
-fn file(bytes: &mut [u8; BYTES], input: &mut Reader<'_>) -> usize
-    ensures { result ≤ 4112 }
-{
+// The file whose length and bytes are the next of the input.
+fn file<'a>(bytes: &'a mut [u8; BYTES], input: &mut Reader<'_>) -> &'a [u8] {
     let length = input.size(BYTES);
     let mut words = [0; WORDS];
     let part = &mut words[..length.div_ceil(4)];
     input.fill(part);
     wire::bytes_of(part, bytes);
-    length
+    &bytes[..length]
 }
 
 // A file; pieces of no byte are no case.
-fn file_case(input: &mut Reader<'_>, out: &mut [u8], at: usize) -> usize {
+fn file_case(input: &mut Reader<'_>, page: &mut Page<'_>) {
     let mark = input.next();
-    let cut = input.size(4096);
-    if cut == 0 {
-        return at;
-    }
+    let Some(cut) = NonZeroUsize::new(input.size(4096)) else {
+        return;
+    };
     let mut bytes = [0u8; BYTES];
-    let length = file(&mut bytes, input);
-    mark_file(out, at, &bytes[..length], cut, mark)
+    mark_file(page, file(&mut bytes, input), cut, mark);
 }
 
-fn case(kind: u32, input: &mut Reader<'_>, out: &mut [u8], at: usize) -> usize {
+// A kind is the input's own number: an enum would name each case a second time.
+fn case(kind: u32, input: &mut Reader<'_>, page: &mut Page<'_>) {
     match kind {
-        1 => record_case(input, out, at),
-        2 => car_case(input, out, at),
-        _ => file_case(input, out, at),
+        1 => record_case(input, page),
+        2 => car_case(input, page),
+        _ => file_case(input, page),
     }
 }
 
-fn cases(words: &[u32], out: &mut [u8]) -> usize {
-    tester::cases(words, out, case)
+fn cases(words: &[u32], page: &mut Page<'_>) {
+    tester::cases(words, page, case);
 }
 
 fn main(rt: HostRuntime) {
     let mut words = [0; 32768];
     let mut out = [0; 32768];
+    let mut page = Page::new(&mut out);
     tester::run(
         &rt,
         &mut words,
-        &mut out,
+        &mut page,
         b"marks: standard input",
         b"marks: standard output",
         cases,

@@ -8,13 +8,15 @@ ghost use Rattle.motion.specs.Acceleration.{backed_off, target, acceleration_cod
 ghost use Rattle.motion.specs.AccelerationShape.{decoded};
 ghost use Rattle.motion.specs.Speed.{at_most};
 
-// A signed number as its sign and size; 0 does not slow.
+// A signed number as its sign and size; 0 does not slow. No i32, since the size of a code may pass 2^31, and no i64 or enum by sign, since
+// whoever reads one wants both parts.
 #[derive(Clone, Copy, Debug, Default, PartialEq, Eq)]
 pub struct Acceleration {
     pub slows: bool,
     pub size: u32,
 }
 
+// a of its code. No `From`: a u32 may be many things beside a code.
 #[tactic(auto, using(kit::specs::Pick::picks), unfolding(crate::specs::AccelerationShape::decoded))]
 pub fn decoded(code: u32) -> Acceleration
     ensures { result ≡ decoded code }
@@ -35,14 +37,11 @@ pub fn backed_off(speed: u32) -> u32
     60
 }
 
-#[tactic(auto, using(kit::specs::Pick::picks), unfolding(crate::specs::Acceleration::target))]
+#[tactic(auto, using(kit::specs::Pick::picks), unfolding(crate::specs::Acceleration::target, crate::specs::Speed::at_most))]
 pub fn target(ahead: bool, desired: u32, lead: u32) -> u32
     ensures { result ≡ target ahead desired lead }
 {
-    if ahead {
-        return desired.min(lead);
-    }
-    desired
+    at_most(ahead, lead, desired)
 }
 
 #[tactic(auto, using(kit::specs::Pick::picks), unfolding(crate::specs::Speed::at_most))]

@@ -18,7 +18,7 @@ use Rattle.car.specs.Mark.{Ran, run_answer, seconds_of, searched, found, ran_of,
 use Rattle.car.proofs.MarkLaws.{searched_0, searched_few}
 use Rattle.history.proofs.HistoryLaws.{driven_append}
 use Rattle.passing.specs.declared.Counted as code
-use Rattle.passing.specs.declared.Find.{Find}
+use Rattle.passing.specs.declared.Marked.{Marked}
 use Rattle.passing.specs.Passing.{Passed, Counted, count_answer, passed_of, later, onward, count_of, mark_of}
 use Rattle.passing.specs.PassingShape.{find_of}
 use Rattle.passing.proofs.PassingLaws.{later_0, passed_append, seconds_append, seconds_accepted, searched_prefix, searched_append, searched_stops}
@@ -166,7 +166,7 @@ module _ (mark : ℕ) (first : Car) (ws : List ℕ) where
           })
 
       -- one did, and the search ends behind it
-      pub seeking_found : t.found ≡ true → ◌≡◌ {A = Answer Find} (gives (record { car = t.car; passed = Some (before + t.accepted + t.refused); seconds = count + t.seconds })) (gives (find_of mark first ws))
+      pub seeking_found : t.found ≡ true → ◌≡◌ {A = Answer Marked} (gives (record { car = t.car; passed = Some (before + t.accepted + t.refused); seconds = count + t.seconds })) (gives (find_of mark first ws))
       unfolding find_of later onward
       seeking_found y =
           let f = sym found_here ∙ y in
@@ -178,7 +178,7 @@ module _ (mark : ℕ) (first : Car) (ws : List ℕ) where
           cc
 
     -- none did in the whole lesson
-    pub seeking_ends : length rest ≡ 0 → ◌≡◌ {A = Answer Find} (gives (record { car = car; passed = None; seconds = count })) (gives (find_of mark first ws))
+    pub seeking_ends : length rest ≡ 0 → ◌≡◌ {A = Answer Marked} (gives (record { car = car; passed = None; seconds = count })) (gives (find_of mark first ws))
     unfolding find_of searched seconds_of driven passed_of later
     seeking_ends h =
         let gone : rest ≡ [] = nil_from_length rest h in
@@ -188,7 +188,7 @@ module _ (mark : ℕ) (first : Car) (ws : List ℕ) where
         cc
 
 -- ---- both: the words that the search drives, and those behind
-module _ (mark : ℕ) (c : Car) (ws : List ℕ) (good : good_of c ≡ true) (f : Find) (ef : gives f ≡ gives (find_of mark c ws)) where
+module _ (mark : ℕ) (c : Car) (ws : List ℕ) (good : good_of c ≡ true) (f : Marked) (ef : gives f ≡ gives (find_of mark c ws)) where
   abbrev front : List ℕ
   front = searched mark c ws
 

@@ -5,10 +5,10 @@ use Rattle.std.specs.Prelude.{List, ℕ}
 use Rattle.car.specs.declared.Car.{Car}
 use Rattle.car.specs.Lesson.{driven}
 use Rattle.car.specs.Mark.{seconds_of, searched}
-use Rattle.passing.specs.declared.Find.{Find}
+use Rattle.passing.specs.declared.Marked.{Marked}
 use Rattle.passing.specs.Passing.{passed_of}
 
-unfoldable pub find_of : ℕ → Car → List ℕ → Find
+unfoldable pub find_of : ℕ → Car → List ℕ → Marked
 find_of mark c ws =
     record {
       car = driven c (searched mark c ws);

@@ -19,7 +19,7 @@ pub struct Counted {
     pub seconds: usize,
 }
 
-// The same with the number of the event that passed the mark.
+// The same with the number of the event that passed the mark. No Counted in it: its readers would name two fields for one. A search gives the seconds up to its find, and the car right after it.
 #[derive(Clone, Copy)]
 pub struct Marked {
     pub car: Car,
@@ -27,19 +27,14 @@ pub struct Marked {
     pub seconds: usize,
 }
 
-// What a search gives: the number of its find, the seconds up to it, and the car right after it, or behind the lesson.
-#[derive(Clone, Copy)]
-struct Find {
-    car: Car,
-    passed: Option<usize>,
-    seconds: usize,
-}
+// Words and mark stand beside the car in each function, and in no struct: nothing ties the one to the other.
 
 // So many words are driven at a time.
 const PART: usize = 1024;
 
-// The first event that passes the mark, and the seconds up to it, or all, of a good car's lesson. No word behind it is driven.
-fn seek(first: Car, words: &[u32], mark: u32) -> Result<Find, Refusal>
+// The first event that passes the mark, and the seconds up to it, or all, of a good car's lesson. No word behind it is driven. A
+// `loop` whose `break` hands the number on: the form that document 01 names. That the car is good stands in the `requires`: a lesson takes any car and gives a plain one.
+fn seek(first: Car, words: &[u32], mark: u32) -> Result<Marked, Refusal>
     requires { good_of first ≡ true }
     ensures { answer result ≡ gives (find_of mark first words.now) }
 {
@@ -60,14 +55,15 @@ fn seek(first: Car, words: &[u32], mark: u32) -> Result<Find, Refusal>
         }
         before += part.len();
     };
-    Ok(Find {
+    Ok(Marked {
         car: car,
         passed: passed,
         seconds: seconds,
     })
 }
 
-// The seconds of a good car's lesson that end at or above the mark.
+// The seconds of a good car's lesson that end at or above the mark. Beside `seek`, of which it is the case that stops at 0: of each part it would
+// have to be shown again that it finds none.
 fn count(first: Car, words: &[u32], mark: u32) -> Result<Counted, Refusal>
     requires { good_of first ≡ true }
     ensures { count_answer first result ≡ count_of mark first words.now }

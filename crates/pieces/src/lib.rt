@@ -5,7 +5,6 @@
 ghost use Rattle.std.specs.Prelude.{◌≡◌, ◌≤◌, length, IfOk, IsOk, IsErr};
 ghost use Rattle.kit.specs.Placed.{placed};
 ghost use Rattle.listing.specs.Listing.{refused_text};
-ghost use Rattle.command.specs.Request.{NameWithin};
 
 use command::Request;
 use console::{Source, Told};
@@ -38,14 +37,15 @@ pub struct Pipe<'a> {
     output: &'a [u8],
 }
 
-// What a turn did: how many of its bytes it used, and where its text ends.
+// What a turn did: how many of its bytes it used, and where its text ends, since there is no heap for a String. Without the stage or the car that
+// `exercise`'s and `cleaning`'s have beside these two: that a program's work keeps itself.
 #[derive(Clone, Copy)]
 pub struct Turned {
     pub used: usize,
     pub end: usize,
 }
 
-// What a program makes of its input.
+// What a program makes of its input. The programs' turns are alike but for what each keeps and calls, and this trait is what they share.
 pub trait Work {
     // One turn over the bytes that have come and were not used: its text stands in `out` from index 0 on.
     fn turn(&mut self, bytes: &[u8], out: &mut [u8]) -> Turned
@@ -53,12 +53,15 @@ pub trait Work {
         ensures end { result.end ≤ length out.new };
 
     // No byte that may still come is asked for.
-    fn has_ended(&self) -> bool;
+    fn has_ended(&self) -> bool {
+        false
+    }
 }
 
 // The most bytes that are held at once, those kept and those that came behind them.
 const PIECE: usize = 4096;
 
+// `read` and `read_all` are two, as `console`'s are: the one gives what has come, the other waits for the end.
 impl Pipe<'_> {
     // Reads what has come, at least a byte where the input has not ended.
     fn read(&mut self, bytes: &mut [u8]) -> Result<usize, Told>
@@ -67,7 +70,7 @@ impl Pipe<'_> {
         console::read(&mut self.source, &mut self.rt.stderr(), bytes, self.input)
     }
 
-    // Reads until the input ends or there is no more room.
+    // Reads until the input ends or there is no more room. A count comes back, as from `console`'s reads and std's.
     pub fn read_all(&mut self, bytes: &mut [u8]) -> Result<usize, Told>
         ensures { IfOk result (λ n. n ≤ length bytes.new) }
     {
@@ -101,9 +104,10 @@ impl Pipe<'_> {
     pub fn work_off<W: Work>(&mut self, work: &mut W, out: &mut [u8]) -> Result<usize, Told>
         ensures { IfOk result (λ held. held ≤ 4096) }
     {
+        // So many of the bytes are held: there is no heap for a Vec of them.
         let mut bytes = [0u8; PIECE];
         let mut held = 0;
-        // The count of pieces only falls because nothing says that an input ends.
+        // A count and no `loop`, which would have to end: nothing says that an input does.
         for _ in 0..u64::MAX {
             let count = self.read(&mut bytes[held..])?;
             if count == 0 {
@@ -118,7 +122,7 @@ impl Pipe<'_> {
     }
 }
 
-// The line of a refusal; the index past it.
+// The line of a refusal; the index past it. The number may be any, as in `listing`, whose text it is.
 #[tactic(auto, using(listing::proofs::ListingLaws::put_room, listing::proofs::ListingLaws::refused_length))]
 pub fn put_refused(line: &mut [u8; 29], refusal: u32) -> usize
     ensures line { line.new ≡ placed line.old 0 (refused_text refusal) }
@@ -127,25 +131,23 @@ pub fn put_refused(line: &mut [u8; 29], refusal: u32) -> usize
     listing::put_refused(line, 0, refusal)
 }
 
-// Works off the input, or says help or usage. `what` is the program and the input's name.
+// Works off the input, or says help or usage: what the programs' `main`s share.
 pub fn answer<B: Drop, F: FnOnce(B, &mut Pipe) -> Result<(), Told> + Drop>(
     rt: &HostRuntime,
     texts: Texts,
     request: Result<Request<B>, Told>,
-    what: &[u8],
     work: F,
 ) -> Result<(), Told>
     requires callable { F.IsAlwaysCallable work }
-    requires name { NameWithin request what.now }
-    ensures told { IsErr request → IsErr result }
-    ensures usage { request ≡ Ok Request.Usage → IsOk result }
+    ensures told { IsErr request.entry → IsErr result }
+    ensures usage { request.entry ≡ Ok Request.Usage → IsOk result }
 {
     match request? {
-        Request::Input(before, source, end) => {
+        Request::Input(before, source, input) => {
             let mut pipe = Pipe {
                 rt,
                 source,
-                input: &what[0..end],
+                input,
                 output: texts.output,
             };
             work(before, &mut pipe)

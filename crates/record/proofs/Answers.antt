@@ -3,6 +3,7 @@
 use Rattle.std.specs.Result.{is_ok}
 use Rattle.std.specs.Prelude.{Result, Ok, Err, Bool, true, false, not, ◌≡◌, refl, List, ◌++◌, ℕ, ◌≤◌, ◌<◌, length, drop, replicate, nat_eq}
 use Rattle.std.proofs.Common.{true≢false, sym, ap, ◌∙◌}
+use Rattle.std.proofs.lemmas.Bool.{not-false}
 use Rattle.kit.specs.Answer.{gives, refused}
 use Rattle.kit.specs.Pick.{pick_true, pick_false, picks, and_both, and_left, and_right, not_is}
 use Rattle.car.specs.declared.Car.{Car}
@@ -24,11 +25,7 @@ write_no c g = sym (pick_false _ _ _ g)
 -- ---- the car that words give, and that car's words p, compared with them
 module _ (ws : List ℕ) (c : Car) (p : List ℕ) (e : c ≡ unpacked ws) (h : p ≡ packed c) where
   pub equal : not (pointwise nat_eq p ws) ≡ false → packed c ≡ ws
-  equal t = sym h ∙ same_eq p ws (sym (pointwise_same p ws) ∙ not_false (pointwise nat_eq p ws) t)
-    where
-      not_false : (b : Bool) → not b ≡ false → b ≡ true
-      not_false true f = refl
-      not_false false f = sym f
+  equal t = sym h ∙ same_eq p ws (sym (pointwise_same p ws) ∙ not-false _ t)
 
   pub read_yes : good_of c ≡ true → packed c ≡ ws → gives c ≡ read_of ws
   unfolding read_of

@@ -1,4 +1,5 @@
-// The layout of the twelve words. Each starts with the mark 11 and its place: hexadecimal B0 to BB.
+// The layout of the twelve words. Each starts with the mark 11 and its place: hexadecimal B0 to BB. Functions and no `From`: it would be of a car
+// and an array, neither of which is this crate's.
 ghost use Rattle.std.specs.Prelude.{◌≡◌};
 ghost use Rattle.record.specs.Layout.{packed, unpacked, word_of};
 ghost use Rattle.record.specs.LayoutShape.{Fits};

@@ -1,4 +1,5 @@
-// A car's record (document 01, "The record"): twelve words, written from a good car and read back.
+// A car's record (document 01, "The record"): twelve words, written from a good car and read back. Functions, and no
+// `TryFrom`, as in layout.rt.
 #![tactic(auto, using(kit::specs::Pick::picks))]
 
 ghost use Rattle.std.specs.Prelude.{◌≡◌};
@@ -55,14 +56,16 @@ pub fn write_into(car: Car, buffer: &mut [u32]) -> Result<(), Refusal>
     Ok(())
 }
 
-// A lesson's counts.
+// A lesson's counts. No part of the outcome below: its readers would name two fields for one. Both are `Taught` and `Ran` without the car, which
+// is the record here.
 #[derive(Clone, Copy, Debug, Default, PartialEq, Eq)]
 pub struct Outcome {
     pub accepted: usize,
     pub refused: usize,
 }
 
-// The same of a lesson that stops where a mark is passed, with the seconds that ended at or above a mark and whether one passed.
+// The same of a lesson that stops where a mark is passed, with the seconds that ended at or above a mark and whether one passed: a
+// flag, since the counts say the same either way.
 #[derive(Clone, Copy, Debug, Default, PartialEq, Eq)]
 pub struct RunOutcome {
     pub accepted: usize,
@@ -97,6 +100,7 @@ impl From<RunOutcome> for Outcome {
 
 // A lesson of the car whose record lent words are, up to the first word that passes the mark `halt` (0: nowhere), with the seconds that ended at
 // `mark` or above: the record of the car afterwards takes its place. The car's own test is the lesson's, and made once.
+// Words, answers and the two marks come one by one, as the car's own lesson takes them.
 pub fn run(
     words: &mut [u32],
     events: &[u32],

@@ -4,10 +4,12 @@
 #![tactic(auto)]
 
 use car::Car;
+use tester::Page;
 
 // What the buffer holds before a record is written into it.
 const UNUSED: u32 = 7;
 
+// Car and words stand apart: `loaded` alone has both, and would make and open a struct of them.
 fn array_same(car: Car, words: [u32; 13]) -> bool {
     record::write(car).is_ok_and(|again| &again[..] == &words[..12])
 }
@@ -18,37 +20,37 @@ fn buffer_same(car: Car, words: [u32; 13]) -> bool {
     written.is_ok() & (&buffer[..12] == &words[..12]) & (buffer[12] == UNUSED)
 }
 
-fn loaded(out: &mut [u8], at: usize, car: Car, words: [u32; 13]) -> usize {
-    let mut end = tester::number(out, at, 0);
-    end = tester::numbers(out, end, &tester::fields_of(car));
+fn loaded(page: &mut Page<'_>, car: Car, words: [u32; 13]) {
+    page.number(0);
+    page.numbers(&tester::fields_of(car));
     let same = array_same(car, words) & buffer_same(car, words);
-    tester::last(out, end, event::bit(same))
+    page.last(event::bit(same));
 }
 
-fn line(out: &mut [u8], at: usize, size: usize, words: [u32; 13]) -> usize {
+// All thirteen words beside the size, since the comparisons read past it.
+fn line(page: &mut Page<'_>, size: usize, words: [u32; 13]) {
     match record::read_from(words.get(..size).unwrap_or(&words)) {
-        Ok(car) => loaded(out, at, car, words),
-        Err(refusal) => tester::last(out, at, u32::from(refusal)),
+        Ok(car) => loaded(page, car, words),
+        Err(refusal) => page.last(u32::from(refusal)),
     }
 }
 
-fn lines(input: &[u32], out: &mut [u8]) -> usize {
-    let mut end = 0;
+fn lines(input: &[u32], page: &mut Page<'_>) {
     for record in input.chunks(14) {
         let mut words = [0; 13];
         tester::fill(&mut words, record, 1);
-        end = line(out, end, tester::size(record, 0, 13), words);
+        line(page, tester::size(record, 0, 13), words);
     }
-    end
 }
 
 fn main(rt: HostRuntime) {
     let mut words = [0; 16384];
     let mut out = [0; 131072];
+    let mut page = Page::new(&mut out);
     tester::run(
         &rt,
         &mut words,
-        &mut out,
+        &mut page,
         b"record_words: standard input",
         b"record_words: standard output",
         lines,

@@ -2,7 +2,8 @@
 -- Assumes nothing.
 use Rattle.std.specs.Prelude.{Bool, ◌||◌, not, ◌⊎◌, ℕ, ◌^◌, ◌≤◌, ◌<◌, eqb, leb}
 use Rattle.std.proofs.Math.Bool.{true, false}
-use Rattle.std.proofs.Common.{true≢false, inl, inr, ◌∙◌}
+use Rattle.std.proofs.Common.{inl, inr, ◌∙◌}
+use Rattle.std.proofs.lemmas.Bool.{or_parts}
 use Rattle.std.proofs.Math.Path.{◌≡◌, refl, sym, ap}
 use native.Mathlib.Omega.{arith}
 use borrow.Author.Tests.{leb-false, eqb-true, not-false, lt-leb, eq-eqb}
@@ -27,8 +28,7 @@ denied true n m a h = (refl, cc)
 denied false n m a h = let z : ◌≡◌ {A = ℕ} 0 1 = cc in absurd (omega arith)
 
 neither : (t u : Bool) → (t || u) ≡ false → (t ≡ false) × (u ≡ false)
-neither true u h = absurd (true≢false h)
-neither false u h = (refl, h)
+neither = or_parts
 
 -- ---- the first test of `start_of`: another kind, or an unnamed bit set
 abbrev other : ℕ → Bool

@@ -19,7 +19,7 @@ const SIGNS: u32 = 4;
 
 const UNNAMED: u32 = 8;
 
-// The fresh car of a settings word. 17 for any other word.
+// The fresh car of a settings word. 17 for any other word. No `TryFrom`: a car is made of a record too.
 #[tactic(auto, using(kit::specs::Pick::picks), unfolding(crate::specs::SettingsWord::start_of, crate::specs::SettingsWord::mode_of, crate::specs::SettingsWord::signs_of))]
 pub fn start(word: u32) -> Result<Car, Refusal>
     ensures { answer result ≡ start_of word }
@@ -32,7 +32,7 @@ pub fn start(word: u32) -> Result<Car, Refusal>
     Car::fresh(body % SIGNS, body / SIGNS)
 }
 
-// The word of settings that make a car. 17 for any others.
+// The word of settings that make a car. 17 for any others: both are any numbers, as C hands them over.
 #[tactic(auto, using(kit::specs::Pick::picks), unfolding(crate::specs::SettingsWord::word_of))]
 pub fn write(mode: u32, signs: u32) -> Result<u32, Refusal>
     ensures { answer result ≡ write_of mode signs }

@@ -1,6 +1,7 @@
 -- Laws of a sighting: its answer exactly, the refusals, its event and that event's word.
 -- Assumes nothing.
 use Rattle.std.specs.Prelude.{Bool, true, false, ◌||◌, ◌↔◌, ◌⊎◌, ◌≡◌, refl, ℕ, ◌+◌, ◌*◌, ◌/◌, ◌≤◌, ◌<◌, max, leb, ltb, ℤ, Float, Option, Some, None}
+use Rattle.std.proofs.lemmas.Bool.{or_parts}
 use Rattle.std.proofs.Common.{true≢false, inl, inr, ⊎_elim, sym, ◌∙◌, zero-mul, arith, leb-true, leb-false, le-leb, ltb-true, ltb-false, lt-ltb}
 use Rattle.std.proofs.lemmas.Bool.{false≢true, lt-leb}
 use Rattle.std.proofs.Math.Path.{ap, subst}
@@ -77,15 +78,14 @@ pub reading_within : (metres tenths : ℕ) → metres < 255 → reading_of metre
 unfolding reading_of
 reading_within metres tenths h = pick_false _ _ _ (lt-leb _ _ h)
 
-given_refused : {o : Option Event} (n : ℕ) → gives o ≡ refused n → ⊥
+pub given_refused : {A : Type 0} {o : A} (n : ℕ) → gives o ≡ refused n → ⊥
 given_refused n e = let z : ◌≡◌ {A = ℕ} 0 1 = cc e in omega arith
 
 some_none : {e : Event} → ◌≡◌ {A = Answer (Option Event)} (gives (Some e)) (gives None) → ⊥
 some_none e = let z : ◌≡◌ {A = ℕ} 0 1 = cc e in omega arith
 
 neither : (t u : Bool) → (t || u) ≡ false → (t ≡ false) × (u ≡ false)
-neither false u e = (refl, e)
-neither true u e = absurd (true≢false e)
+neither = or_parts
 
 -- ---- the answer to a vehicle, case by case
 module _ (metres kmh : Float) where

@@ -11,6 +11,8 @@ use event::{Event, Input, Refusal};
 
 mod whole;
 
+use whole::Factor;
+
 // What the engine sees: a car, with metres and km/h; a free road; nothing, for a fault of its own.
 #[derive(Clone, Copy, Debug, PartialEq)]
 pub enum Sighting {
@@ -47,7 +49,7 @@ fn reading(metres: u32, tenths: u32) -> Event
 fn at_speed(metres: u32, kmh: f32) -> Result<Option<Event>, Refusal>
     ensures { answer result ≡ at_speed metres kmh }
 {
-    let tenths = whole::of_float(kmh, 10)?;
+    let tenths = whole::of_float(kmh, Factor { times: 10 })?;
     if too_fast(kmh) {
         return Err(Refusal::TooFast);
     }
@@ -58,7 +60,7 @@ fn at_speed(metres: u32, kmh: f32) -> Result<Option<Event>, Refusal>
 fn vehicle(metres: f32, kmh: f32) -> Result<Option<Event>, Refusal>
     ensures { answer result ≡ vehicle_of metres kmh }
 {
-    at_speed(whole::of_float(metres, 1)?, kmh)
+    at_speed(whole::of_float(metres, Factor { times: 1 })?, kmh)
 }
 
 // The event of a sighting; none of a fault.

@@ -1,4 +1,5 @@
-// The whole number at or below a multiple of a float, from the float's bits: bit 31 the sign, bits 23-30 the power, bits 0-22 the digits.
+// The whole number at or below a multiple of a float, from the float's bits: bit 31 the sign, bits 23-30 the power, bits 0-22 the digits. Not by
+// std's conversion of ten times the float: that product is rounded.
 ghost use Rattle.std.specs.Prelude.{◌≡◌, ◌*◌, ◌/◌, ◌^◌, ◌≤◌, ◌<◌, min};
 ghost use Rattle.std.specs.Float.{binary32};
 ghost use Rattle.std.specs.Float.Ieee.{of_bits};
@@ -17,6 +18,13 @@ const MINUS_ZERO: u32 = 0x8000_0000;
 // 2^23: one more than the digits' bits hold, and past every whole number that is looked at.
 const LARGE: u32 = 0x0080_0000;
 
+// What a float is taken times.
+#[derive(Clone, Copy)]
+pub(crate) struct Factor {
+    pub(crate) times: u32,
+    ghost bounds: { (times ≤ 10) × (1 ≤ times) },
+}
+
 // n / 2 ^ by, also where that is the width or more.
 #[tactic(auto, using(kit::specs::Pick::picks, crate::proofs::WholeLaws::shifted_out))]
 fn shifted(n: u32, by: u32) -> u32
@@ -27,10 +35,11 @@ fn shifted(n: u32, by: u32) -> u32
 
 // Of the bits of a finite float with no minus sign. Below a power of 1 there is no leading digit; from 150 on the float is 2^23 or more.
 #[tactic(auto, using(kit::specs::Pick::picks, crate::proofs::WholeLaws::held_small, crate::proofs::WholeLaws::held_below, crate::proofs::WholeLaws::held_beyond, crate::proofs::WholeLaws::held_large))]
-fn of_finite(bits: u32, times: u32) -> u32
-    requires { (bits < 0x7f80_0000) × (times ≤ 10) × (1 ≤ times) }
-    ensures { result ≡ min (floor_times times (of_bits binary32 bits)) large }
+fn of_finite(bits: u32, factor: Factor) -> u32
+    requires { bits < 0x7f80_0000 }
+    ensures { result ≡ min (floor_times factor.times (of_bits binary32 bits)) large }
 {
+    let times = factor.times;
     let power = bits / LARGE;
     let digits = bits % LARGE;
     if power >= 150 {
@@ -43,9 +52,8 @@ fn of_finite(bits: u32, times: u32) -> u32
 }
 
 #[tactic(auto, using(kit::specs::Pick::picks, crate::proofs::WholeLaws::whole_minus_zero, crate::proofs::WholeLaws::whole_unusable, crate::proofs::WholeLaws::whole_usable, crate::proofs::ValueLaws::finite_usable, crate::proofs::ValueLaws::past_infinity_unusable))]
-fn of_bits(bits: u32, times: u32) -> Result<u32, Refusal>
-    requires { (times ≤ 10) × (1 ≤ times) }
-    ensures { answer result ≡ whole_of times (of_bits binary32 bits) }
+fn of_bits(bits: u32, factor: Factor) -> Result<u32, Refusal>
+    ensures { answer result ≡ whole_of factor.times (of_bits binary32 bits) }
 {
     if bits == MINUS_ZERO {
         return Ok(0);
@@ -53,17 +61,16 @@ fn of_bits(bits: u32, times: u32) -> Result<u32, Refusal>
     if bits >= INFINITY {
         return Err(Refusal::BadFloat);
     }
-    Ok(of_finite(bits, times))
+    Ok(of_finite(bits, factor))
 }
 
 // A float that is no number has no bits of its own, and is told by differing from itself.
 #[tactic(auto, using(kit::specs::Pick::picks, crate::proofs::WholeLaws::whole_unusable, crate::proofs::ValueLaws::differs_unusable, crate::proofs::ValueLaws::same_number))]
-pub(crate) fn of_float(x: f32, times: u32) -> Result<u32, Refusal>
-    requires { (times ≤ 10) × (1 ≤ times) }
-    ensures { answer result ≡ whole_of times x }
+pub(crate) fn of_float(x: f32, factor: Factor) -> Result<u32, Refusal>
+    ensures { answer result ≡ whole_of factor.times x }
 {
     if x != x {
         return Err(Refusal::BadFloat);
     }
-    of_bits(f32::to_bits(x), times)
+    of_bits(f32::to_bits(x), factor)
 }

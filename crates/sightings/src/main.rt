@@ -6,77 +6,84 @@
 use event::refusal::number;
 use event::{Event, Input};
 use sighting::Sighting;
+use tester::Page;
 
 // What the library is to store over.
 const UNUSED: u32 = 0xDEAD_BEEF;
 
-fn by_library(out: &mut [u8], at: usize, kind: u32, metres: u32, kmh: u32) -> usize {
+// A sighting as the input has it: its kind, any number, and the bits of its floats.
+#[derive(Clone, Copy)]
+struct Seen {
+    kind: u32,
+    metres: u32,
+    kmh: u32,
+}
+
+fn by_library(page: &mut Page<'_>, seen: Seen) {
     let mut word = UNUSED;
     let refusal = cruise::cruise_sighting(
-        kind,
-        tester::float(metres),
-        tester::float(kmh),
+        seen.kind,
+        tester::float(seen.metres),
+        tester::float(seen.kmh),
         &mut word,
     );
-    tester::numbers(out, at, &[refusal, word])
+    page.numbers(&[refusal, word]);
 }
 
 // A reading's range and speed; no sighting gives any other event.
-fn by_event(out: &mut [u8], at: usize, sighting: Sighting) -> usize {
+fn by_event(page: &mut Page<'_>, sighting: Sighting) {
     let seen = sighting::radar_event(sighting);
     let refusal = number(&seen);
     match seen {
-        Ok(Some(Event::Input(Input::Radar { range, speed }))) => tester::numbers(
-            out,
-            at,
-            &[0, 1, range, speed],
-        ),
-        _ => tester::numbers(out, at, &[refusal, 0, 0, 0]),
+        Ok(Some(Event::Input(Input::Radar { range, speed }))) => page.numbers(&[
+            0, 1, range, speed,
+        ]),
+        _ => page.numbers(&[refusal, 0, 0, 0]),
     }
 }
 
-fn by_word(out: &mut [u8], at: usize, sighting: Sighting) -> usize {
+fn by_word(page: &mut Page<'_>, sighting: Sighting) {
     let seen = sighting::radar_word(sighting);
     let refusal = number(&seen);
     match seen {
-        Ok(Some(word)) => tester::numbers(out, at, &[0, 1, word]),
-        _ => tester::numbers(out, at, &[refusal, 0, 0]),
+        Ok(Some(word)) => page.numbers(&[0, 1, word]),
+        _ => page.numbers(&[refusal, 0, 0]),
     }
 }
 
 // The calls, where the kind is one of a sighting.
-fn by_calls(out: &mut [u8], at: usize, kind: u32, metres: u32, kmh: u32) -> usize {
-    if kind > 2 {
-        return at;
+fn by_calls(page: &mut Page<'_>, seen: Seen) {
+    if seen.kind > 2 {
+        return;
     }
-    let sighting = tester::sighting(kind, metres, kmh);
-    let end = by_event(out, at, sighting);
-    by_word(out, end, sighting)
+    let sighting = tester::sighting(seen.kind, seen.metres, seen.kmh);
+    by_event(page, sighting);
+    by_word(page, sighting);
 }
 
-fn line(out: &mut [u8], at: usize, kind: u32, metres: u32, kmh: u32) -> usize {
-    let first = by_library(out, at, kind, metres, kmh);
-    let second = by_calls(out, first, kind, metres, kmh);
-    tester::end_line(out, second)
+fn line(page: &mut Page<'_>, seen: Seen) {
+    by_library(page, seen);
+    by_calls(page, seen);
+    page.end_line();
 }
 
-fn lines(words: &[u32], out: &mut [u8]) -> usize {
-    let mut end = 0;
+fn lines(words: &[u32], page: &mut Page<'_>) {
     for chunk in words.chunks(3) {
-        let mut seen = [0; 3];
-        tester::fill(&mut seen, chunk, 0);
-        end = line(out, end, seen[0], seen[1], seen[2]);
+        let mut words = [0; 3];
+        tester::fill(&mut words, chunk, 0);
+        let [kind, metres, kmh] = words;
+        line(page, Seen { kind, metres, kmh });
     }
-    end
 }
 
 fn main(rt: HostRuntime) {
     let mut words = [0; 16384];
     let mut out = [0; 131072];
+    let mut page = Page::new(&mut out);
     tester::run(
         &rt,
         &mut words,
-        &mut out,
+        &mut page,
         b"sightings: standard input",
         b"sightings: standard output",
         lines,

@@ -1,3 +1,5 @@
 pub mod Fields
 pub mod Input
 pub mod Output
+pub mod Puts
+pub mod Reading

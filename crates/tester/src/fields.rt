@@ -1,4 +1,4 @@
-// A car as its fields; 1 for a flag that is set.
+// A car as its fields; 1 for a flag that is set. No `From`: neither type is this crate's.
 ghost use Rattle.std.specs.Prelude.{◌≡◌, drop};
 ghost use Rattle.tester.specs.Fields.{fields_of, car_of};
 ghost use Rattle.tester.specs.Input.{first_of};

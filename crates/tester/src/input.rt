@@ -1,4 +1,5 @@
 // The words of standard input. A word past the end of the input reads as 0.
+// Words and an index stand apart where the index is fixed, as at a record's words; one that moves is a `Reader`'s.
 ghost use Rattle.std.specs.Prelude.{◌≡◌, ◌+◌, ◌≤◌, min, length, get_or, drop, IfOk};
 ghost use Rattle.std.specs.Float.{binary32};
 ghost use Rattle.std.specs.Float.Ieee.{of_bits};
@@ -8,14 +9,20 @@ ghost use Rattle.tester.specs.Input.{first_of, word_or0, sighting_of};
 use console::Told;
 use sighting::Sighting;
 
-// Reads all of standard input, 131,072 bytes at most: how many words. `what` is the program and the input's name. No contract can say what is read.
+// Reads all of standard input, 131,072 bytes at most: its words, in the slice. `what` is the program and the input's name. No contract can say what
+// is read.
 #[tactic(auto, using(kit::specs::Pick::picks), unfolding(wire::specs::Wire::words_count))]
-pub fn read_words(rt: &HostRuntime, words: &mut [u32], what: &[u8]) -> Result<usize, Told>
-    ensures { IfOk result (λ n. n ≤ length words.new) }
+pub fn read_words<'a>(
+    rt: &HostRuntime,
+    words: &'a mut [u32],
+    what: &[u8],
+) -> Result<&'a [u32], Told>
+    ensures { IfOk result (λ read. length read.now ≤ length words.old) }
 {
     let mut bytes = [0; 131072];
     let count = console::read_all(&mut rt.stdin(), &mut rt.stderr(), &mut bytes, what)?;
-    Ok(wire::words_of(&bytes[..count], words))
+    let read = wire::words_of(&bytes[..count], words);
+    Ok(&words[..read])
 }
 
 pub fn word(words: &[u32], at: usize) -> u32
@@ -81,6 +88,7 @@ pub fn float(bits: u32) -> f32
 }
 
 // The sighting of a kind, 0 a vehicle, 1 a free road, any other a fault, and of two floats' bits.
+// The kind is the input's own number, which the library's function is handed too.
 #[tactic(auto, using(kit::specs::Pick::picks), unfolding(crate::specs::Input::sighting_of, kit::specs::Pick::pick))]
 pub fn sighting(kind: u32, metres: u32, kmh: u32) -> Sighting
     ensures { result ≡ sighting_of kind metres kmh }

@@ -10,8 +10,6 @@ mod reading;
 
 pub use fields::{car_at, fields_of};
 pub use input::{fill, float, further, past, read_words, settings_word, sighting, size, word};
-pub use output::{
-    car_line, count_line, end_line, last, lesson_line, number, numbers, text, words_line, write,
-};
+pub use output::{Page, write};
 pub use program::{cases, pieces, run};
 pub use reading::Reader;

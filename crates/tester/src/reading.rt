@@ -1,6 +1,7 @@
 // The input's words one after the other; those past its end are zeros.
-ghost use Rattle.std.specs.Prelude.{◌≡◌, ◌+◌, min, length, get_or, drop};
+ghost use Rattle.std.specs.Prelude.{◌≡◌, min, length, get_or, drop};
 ghost use Rattle.tester.specs.Input.{first_of};
+ghost use Rattle.tester.specs.Reading.{Passes};
 
 use crate::input::{fill, past, word};
 
@@ -13,7 +14,7 @@ pub struct Reader<'a> {
 
 impl Reader<'_> {
     pub fn next(&mut self) -> u32
-        ensures { (result ≡ get_or self.old.words.now self.old.next 0) × (self.new.words.now ≡ self.old.words.now) × (self.new.next ≡ min (self.old.next + 1) (length self.old.words.now)) }
+        ensures { (result ≡ get_or self.old.words.now self.old.next 0) × Passes self.old self.new 1 }
     {
         let word = word(self.words, self.next);
         self.next = past(self.words, self.next, 1);
@@ -22,14 +23,14 @@ impl Reader<'_> {
 
     // The next word, held to a number.
     pub fn size(&mut self, most: usize) -> usize
-        ensures { (result ≡ min (get_or self.old.words.now self.old.next 0) most) × (self.new.words.now ≡ self.old.words.now) × (self.new.next ≡ min (self.old.next + 1) (length self.old.words.now)) }
+        ensures { (result ≡ min (get_or self.old.words.now self.old.next 0) most) × Passes self.old self.new 1 }
     {
         most.min(self.next() as usize)
     }
 
     // The next words, one at each place of a slice.
     pub fn fill(&mut self, into: &mut [u32])
-        ensures { (into.new ≡ first_of (length into.old) (drop self.old.next self.old.words.now)) × (self.new.words.now ≡ self.old.words.now) × (self.new.next ≡ min (self.old.next + length into.old) (length self.old.words.now)) }
+        ensures { (into.new ≡ first_of (length into.old) (drop self.old.next self.old.words.now)) × Passes self.old self.new (length into.old) }
     {
         fill(into, self.words, self.next);
         self.next = past(self.words, self.next, into.len());
@@ -37,7 +38,7 @@ impl Reader<'_> {
 
     // As many words as are asked for.
     pub fn take<const N: usize>(&mut self) -> [u32; N]
-        ensures { (result ≡ first_of N (drop self.old.next self.old.words.now)) × (self.new.words.now ≡ self.old.words.now) × (self.new.next ≡ min (self.old.next + N) (length self.old.words.now)) }
+        ensures { (result ≡ first_of N (drop self.old.next self.old.words.now)) × Passes self.old self.new N }
     {
         let mut words = [0; N];
         self.fill(&mut words);

@@ -37,6 +37,8 @@ fn list_pieces(rt: &HostRuntime, bytes: &[u8], cut: usize, out: &mut [u8]) -> Re
 }
 
 // Lists a file, whose name stands behind the program's.
+// A call for each file, its cut a literal, which the check knows to be above 0: from a table a cut of 0 and a name of fewer than nine bytes would
+// have to be answered, by no listing.
 fn list(rt: &HostRuntime, what: &[u8], cut: usize) -> Result<(), Told>
     requires { (9 ≤ length what.now) × (1 ≤ cut) }
 {

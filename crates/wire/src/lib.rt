@@ -4,7 +4,8 @@
 ghost use Rattle.std.specs.Prelude.{◌≡◌};
 ghost use Rattle.wire.specs.Wire.{word_at, words_count, words_after, bytes_count, bytes_after};
 
-// The word whose first byte stands at an index, or 0 where it does not lie within the slice.
+// The word whose first byte stands at an index, or 0 where it does not lie within the slice. No `Option`: 0 is a word of no kind, which whoever
+// reads one refuses in any case.
 #[tactic(auto, using(kit::specs::Pick::picks), unfolding(crate::specs::Wire::word_at))]
 pub fn word_at(bytes: &[u8], at: usize) -> u32
     ensures { result ≡ word_at bytes.now at }
@@ -18,7 +19,8 @@ pub fn word_at(bytes: &[u8], at: usize) -> u32
     u32::from_le_bytes(*four)
 }
 
-// As many whole words from the start as there are and as fit, and their number. The rest of `words` is kept.
+// As many whole words from the start as there are and as fit, and their number. The rest of `words` is kept: with no heap the
+// words go into the caller's room, and so do the bytes of `bytes_of`.
 pub fn words_of(bytes: &[u8], words: &mut [u32]) -> usize
     ensures { (result ≡ words_count bytes.now words.old) × (words.new ≡ words_after bytes.now words.old) }
 {

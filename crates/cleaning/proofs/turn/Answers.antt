@@ -1,15 +1,8 @@
-use Rattle.std.proofs.Common.{refl, sym, arith, length-take-le}
-use Rattle.wire.proofs.WireLaws.{count_le}
+use Rattle.std.proofs.Common.{refl}
 use Rattle.exercise.proofs.Turning.{words_cut}
 use Rattle.cleaning.specs.Pieces.{turn_of}
 use Rattle.cleaning.proofs.Turning.{turn_room}
 use Rattle.cleaning.proofs.turn.Goals as goal
-
-pub slice_bounds-words-end : goal.slice_bounds-words-end
-slice_bounds-words-end c = omega (arith, count_le _ _ refl c.words_of-n.ensures.0)
-
-pub slice_bounds-clean_words-end : goal.slice_bounds-clean_words-end
-slice_bounds-clean_words-end c = sym (length-take-le _ _ (omega (arith, count_le _ _ refl c.words_of-n.ensures.0)))
 
 pub returns : goal.returns
 unfolding turn_of

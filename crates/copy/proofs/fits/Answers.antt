@@ -1,3 +1,4 @@
+-- That the answers have room for a part stands here three times: as a lemma over `In-Some`, as in `write`, it is not proved at this loop's goals.
 use Rattle.std.proofs.Common.{◌≤◌, length, ◌∙◌, arith}
 use Rattle.copy.proofs.Parts.{no_refusal, counting_short, counting_again, counting_ends}
 use Rattle.copy.proofs.fits.Goals as goal

@@ -1,18 +1,9 @@
-use Rattle.std.proofs.Common.{refl, sym, arith, length-take-le}
+use Rattle.std.proofs.Common.{refl, arith, length-take-le}
 use Rattle.wire.proofs.WireLaws.{count_le}
 use Rattle.exercise.proofs.Turning.{words_cut}
 use Rattle.marking.specs.Pieces.{idle, turn_of}
 use Rattle.marking.proofs.Turning.{turned}
 use Rattle.marking.proofs.turn.Goals as goal
-
-pub slice_bounds-words-end : goal.slice_bounds-words-end
-slice_bounds-words-end c = omega (arith, count_le _ _ refl c.words_of-n.ensures.0)
-
-pub slice_bounds-further-end : goal.slice_bounds-further-end
-slice_bounds-further-end c = sym (length-take-le _ _ (omega (arith, count_le _ _ refl c.words_of-n.ensures.0)))
-
-pub overflow_mul-result : goal.overflow_mul-result
-overflow_mul-result c = record { fits = omega (arith, count_le _ _ refl c.words_of-n.ensures.0) }
 
 pub returns-in-Some : goal.returns-in-Some
 unfolding turn_of

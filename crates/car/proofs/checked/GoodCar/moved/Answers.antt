@@ -1,4 +1,4 @@
-use Rattle.std.proofs.Common.{◌∙◌, arith, rules}
+use Rattle.std.proofs.Common.{◌∙◌, arith}
 use borrow.Author.Tests.{not-true, not-false}
 use Rattle.car.proofs.AccelerationLaws.{acceleration_code_lem}
 use Rattle.car.proofs.AccelerationShapeLaws.{moved_of}
@@ -6,7 +6,7 @@ use Rattle.car.proofs.LessonShapeLaws.{moved_off, moved_on}
 use Rattle.car.proofs.checked.GoodCar.moved.Goals as goal
 
 pub speed_after-free-requires : goal.speed_after-free-requires
-speed_after-free-requires c = (search rules, omega (arith, c.requires, acceleration_code_lem _ c.args.self.good.ranges))
+speed_after-free-requires c = omega (arith, c.requires, acceleration_code_lem _ c.args.self.good.ranges)
 
 pub returns-then-not-self : goal.returns-then-not-self
 returns-then-not-self c =
