@@ -103,9 +103,12 @@ fn show(page: &mut Page<'_>, kind: u32, words: &[u32]) {
     }
 }
 
-// A call over the first words, what the library left of them all, and its answers about the first.
+// A call over the first words, what the library left of them all, and its answers about the first. Over more than there are none is made.
 fn report(kind: u32, words: &mut [u32; 13], input: &mut Reader<'_>, page: &mut Page<'_>) {
-    let size = input.size(13);
+    let size = input.size(MOST);
+    if words.len() < size {
+        return show(page, kind, &words[..]);
+    }
     let before = *words;
     call(kind, &mut words[..size], input, page);
     show(page, kind, &words[..]);

@@ -4,6 +4,7 @@
 #![tactic(auto)]
 
 use car::Car;
+use event::Refusal;
 use tester::Page;
 
 // What the buffer holds before a record is written into it.
@@ -27,9 +28,18 @@ fn loaded(page: &mut Page<'_>, car: Car, words: [u32; 13]) {
     page.last(event::bit(same));
 }
 
-// All thirteen words beside the size, since the comparisons read past it.
-fn line(page: &mut Page<'_>, size: usize, words: [u32; 13]) {
-    match record::read_from(words.get(..size).unwrap_or(&words)) {
+// A record of 11 or 12 words, else of all thirteen, by the input's own number.
+fn read(words: &[u32; 13], count: u32) -> Result<Car, Refusal> {
+    match count {
+        11 => record::read_from(&words[..11]),
+        12 => record::read_from(&words[..12]),
+        _ => record::read_from(words),
+    }
+}
+
+// All thirteen words beside the count, since the comparisons read past it.
+fn line(page: &mut Page<'_>, count: u32, words: [u32; 13]) {
+    match read(&words, count) {
         Ok(car) => loaded(page, car, words),
         Err(refusal) => page.last(u32::from(refusal)),
     }
@@ -39,7 +49,7 @@ fn lines(input: &[u32], page: &mut Page<'_>) {
     for record in input.chunks(14) {
         let mut words = [0; 13];
         tester::fill(&mut words, record, 1);
-        line(page, tester::size(record, 0, 13), words);
+        line(page, tester::word(record, 0), words);
     }
 }
 
