@@ -47,19 +47,19 @@ pub fn cases<F: FnMut(u32, &mut Reader<'_>, &mut Page<'_>)>(
 }
 
 // Hands over bytes in pieces of a cut, each with the bytes before it that were not used; `turn` answers how many it used. How many were left over.
-// A loop by its ends, and no `chunks`, whose parts have no bytes of the one before. `1 ≤ cut`, and no NonZeroUsize: the cuts of `vectors` are literals.
+// A loop by its ends, and no `chunks`, whose parts have no bytes of the one before. A cut of 0 is one of 1.
 pub fn pieces<E, F: FnMut(&[u8]) -> Result<usize, E>>(
     bytes: &[u8],
     cut: usize,
     mut turn: F,
 ) -> Result<usize, E>
-    requires { (1 ≤ cut) × F.IsAlwaysCallable turn }
+    requires { F.IsAlwaysCallable turn }
     ensures { IfOk result (λ left. left ≤ length bytes.now) }
 {
     let mut from = 0;
     let mut to = 0;
     while to < bytes.len() {
-        to = further(to, cut, bytes.len());
+        to = further(to, cut.max(1), bytes.len());
         from = further(from, turn(&bytes[from..to])?, to);
     }
     Ok(bytes.len() - from)

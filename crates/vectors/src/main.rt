@@ -27,9 +27,7 @@ fn turn(rt: &HostRuntime, stage: &mut Stage, piece: &[u8], out: &mut [u8]) -> Re
 
 // The listing of the bytes of a file.
 #[tactic(auto, using(exercise::proofs::PiecesLaws::text_within))]
-fn list_pieces(rt: &HostRuntime, bytes: &[u8], cut: usize, out: &mut [u8]) -> Result<(), Told>
-    requires { 1 ≤ cut }
-{
+fn list_pieces(rt: &HostRuntime, bytes: &[u8], cut: usize, out: &mut [u8]) -> Result<(), Told> {
     let mut stage = Stage::Awaited;
     let left = tester::pieces(bytes, cut, |piece| turn(rt, &mut stage, piece, out))?;
     let end = exercise::close(stage, left, out);
@@ -37,10 +35,9 @@ fn list_pieces(rt: &HostRuntime, bytes: &[u8], cut: usize, out: &mut [u8]) -> Re
 }
 
 // Lists a file, whose name stands behind the program's.
-// A call for each file, its cut a literal, which the check knows to be above 0: from a table a cut of 0 and a name of fewer than nine bytes would
-// have to be answered, by no listing.
+// A call for each file: from a table a name of fewer than nine bytes would have to be answered, by no listing.
 fn list(rt: &HostRuntime, what: &[u8], cut: usize) -> Result<(), Told>
-    requires { (9 ≤ length what.now) × (1 ≤ cut) }
+    requires { 9 ≤ length what.now }
 {
     let mut file = console::open(rt, &mut rt.stderr(), &what[9..], what)?;
     let mut bytes = [0u8; 65536];
