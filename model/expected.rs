@@ -150,6 +150,7 @@ pub fn split_calls(words: &[u32]) -> Result<Vec<&[u32]>, String> {
         3 => Some(2),
         4 => lesson_length(1, words.get(1..3)?, 32),
         5 => (*words.get(1)? <= 32).then_some(2),
+        6 => (*words.get(1)? <= 2).then_some(4),
         _ => None,
     };
     split(words, length).ok_or_else(|| String::from("calls: an input that it does not read, or only in part"))
@@ -161,7 +162,8 @@ fn call_of(words: &[u32]) -> Call {
         2 => Call::Set(car_of(words[1..].try_into().expect("23 words"))),
         3 => Call::Drive(words[1]),
         4 => Call::Lesson { room: words[1] as usize, words: words[3..].to_vec() },
-        _ => Call::Record { length: words[1] as usize },
+        5 => Call::Record { length: words[1] as usize },
+        _ => Call::Sight(Sighting::new(words[1], words[2], words[3]).expect("a kind of sighting")),
     }
 }
 
@@ -190,7 +192,7 @@ fn call_lines(page: &mut Page, call: &Call, outcome: &Outcome) {
             page.numbers(&[outcome.refusal]).end();
             page.numbers(&outcome.buffer).end();
         }
-        Call::Sight(_) => unreachable!("a call that the program does not read"),
+        Call::Sight(_) => page.numbers(&[outcome.refusal, u32::from(outcome.is_fault())]).end(),
     }
     if let Some(car) = outcome.car {
         page.numbers(&car.0).end();
@@ -208,6 +210,7 @@ pub fn split_cruise_calls(words: &[u32]) -> Result<Vec<&[u32]>, String> {
             2 => Some(4),
             3 => Some(3),
             4 => lesson_length(2, words.get(2..4)?, 16),
+            5 => Some(5),
             _ => None,
         }
     };
@@ -240,6 +243,11 @@ fn lend(page: &mut Page, call: &[u32], words: &mut [u32]) {
         3 => {
             let driven = car.ok_or(18).and_then(|car| car.drive(call[2]));
             page.numbers(&[store(words, driven)]).end();
+        }
+        5 => {
+            let sighting = Sighting::new(call[2], call[3], call[4]).ok_or(1u32);
+            let seen = car.ok_or(18).and_then(|car| car.see(sighting?));
+            page.numbers(&[store(words, seen)]).end();
         }
         _ => {
             let mut answers = [UNUSED; 16];

@@ -125,12 +125,15 @@ fn drives_up_down(call: &Call) -> bool {
 /// How many calls of the input, the last ones, are the edges': 149 cars with two words each.
 const EDGE_CALLS: usize = 3 * 149;
 
-/// The calls, then those of the edges.
+/// The calls, sightings added by hand, then the calls of the edges.
 pub fn calls(folder: &Folder) -> Result<Vec<u8>, String> {
     let present = words_of(&stdin("calls")?);
     let present = split_calls(&present)?;
     let edges = present.len().checked_sub(EDGE_CALLS).ok_or("calls: no edges")?;
-    let mut words = folder.calls("calls")?.map_or(present[..edges].concat(), |calls| encoded(&calls));
+    let mut words = match folder.calls("calls")? {
+        Some(calls) => [encoded(&calls), sights()?].concat(),
+        None => present[..edges].concat(),
+    };
     match folder.calls("edges")? {
         None => words.extend(present[edges..].concat()),
         Some(calls) if calls.len() == EDGE_CALLS => words.extend(encoded(&calls)),
@@ -145,8 +148,7 @@ fn encoded(calls: &[Call]) -> Vec<u32> {
     let mut words = Vec::new();
     for (call, outcome) in calls.iter().zip(run_all(calls)) {
         match (call, outcome) {
-            // The program takes no sightings.
-            (_, None) | (Call::Sight(_), _) => {}
+            (_, None) => {}
             (Call::Fresh { mode, signs }, _) => words.extend([1, *mode, *signs]),
             (Call::Drive(word), _) => words.extend([3, *word]),
             (Call::Lesson { room, words: events }, _) => {
@@ -154,6 +156,7 @@ fn encoded(calls: &[Call]) -> Vec<u32> {
                 words.extend(events);
             }
             (Call::Record { length }, _) => words.extend([5, *length as u32]),
+            (Call::Sight(sighting), _) => words.extend(sight(numbers(*sighting))),
             // A car as it stands; a refused reading leaves none.
             (Call::Set(_) | Call::Change(_) | Call::Read(_), Some(outcome)) => {
                 words.extend(outcome.car.iter().flat_map(|car| [2].into_iter().chain(car.0)));
@@ -161,6 +164,58 @@ fn encoded(calls: &[Call]) -> Vec<u32> {
         }
     }
     words
+}
+
+/// A sighting's kind and floats; a free road and a fault have none.
+fn numbers(sighting: Sighting) -> [u32; 3] {
+    match sighting {
+        Sighting::Vehicle { metres, kmh } => [0, metres, kmh],
+        Sighting::Free => [1, 0, 0],
+        Sighting::Fault => [2, 0, 0],
+    }
+}
+
+fn sight([kind, metres, kmh]: [u32; 3]) -> [u32; 4] {
+    [6, kind, metres, kmh]
+}
+
+/// Floats as their bits; 0.1 as stored, and the ones next to 255 and 500.
+const TWENTY: u32 = 0x41A0_0000;
+const HUNDRED: u32 = 0x42C8_0000;
+const BELOW_255: u32 = 0x437E_FFFF;
+const AT_255: u32 = 0x437F_0000;
+const AT_500: u32 = 0x43FA_0000;
+const ABOVE_500: u32 = 0x43FA_0001;
+const TENTH: u32 = 0x3DCC_CCCD;
+const MINUS_ONE: u32 = 0xBF80_0000;
+const INFINITE: u32 = 0x7F80_0000;
+const NO_NUMBER: u32 = 0x7FC0_0000;
+
+/// Sightings added by hand, for cars of every sort: a vehicle near and far, one that 23 and two that 22 refuses; a free
+/// road and a fault with floats that a vehicle is refused for.
+const SIGHTINGS: [[u32; 3]; 8] = [
+    [0, TWENTY, HUNDRED],
+    [0, BELOW_255, TENTH],
+    [0, AT_255, AT_500],
+    [0, TWENTY, ABOVE_500],
+    [0, MINUS_ONE, ABOVE_500],
+    [0, NO_NUMBER, HUNDRED],
+    [1, INFINITE, NO_NUMBER],
+    [2, NO_NUMBER, ABOVE_500],
+];
+
+/// Cars with the radar ready and not ready, with the key out, and one that is not good: R is 255 and the radar ready.
+fn sighted_cars() -> Result<[Fields; 4], String> {
+    let no_range = TABLE_CAR.with("R", 255).ok_or("no field R")?;
+    let not_ready = no_range.with("P", 0).ok_or("no field P")?;
+    let key_out = Car::fresh(1, 0).map_err(|refusal| format!("no fresh car: {refusal}"))?;
+    Ok([TABLE_CAR, not_ready, Fields::of(&key_out), no_range])
+}
+
+fn sights() -> Result<Vec<u32>, String> {
+    let sights = || SIGHTINGS.into_iter().flat_map(sight);
+    let on_car = |car: Fields| [2].into_iter().chain(car.0).chain(sights());
+    Ok(sighted_cars()?.into_iter().flat_map(on_car).collect())
 }
 
 // ---------------------------------------------------------------- cruise_calls
@@ -173,9 +228,11 @@ const LESSONS_BETWEEN: usize = 40;
 const TICK: u32 = 0xA000_0001;
 /// How many cars with the visual warning alone, and how many with both.
 const WARNINGS: usize = 10;
+/// Of the refused sightings those whose number among these, from 0, is a multiple of this, for want of room for more.
+const SIGHTS_BETWEEN: usize = 16;
 
-/// Fresh cars in buffers of all sizes, which are kept; the calls; some of the records; cars with warnings; and pairs of
-/// cars, which are kept.
+/// Fresh cars in buffers of all sizes, which are kept; the calls; sightings added by hand; some of the records; cars with
+/// warnings; and pairs of cars, which are kept.
 pub fn cruise_calls(folder: &Folder) -> Result<Vec<u8>, String> {
     let (Some(records), Some(calls)) = (folder.records()?, folder.calls("calls")?) else {
         return stdin("cruise_calls");
@@ -185,6 +242,7 @@ pub fn cruise_calls(folder: &Folder) -> Result<Vec<u8>, String> {
     let pairs = present.len().checked_sub(PAIR_CALLS).ok_or("cruise_calls: no pairs of cars")?;
     let mut words = present[..first_call(&present).ok_or("cruise_calls: no calls")?].concat();
     words.extend(lent_calls(&calls)?);
+    words.extend(lent_sights()?);
     for record in chosen_records(&records) {
         words.extend(set(record));
     }
@@ -208,10 +266,11 @@ fn first_call(present: &[&[u32]]) -> Option<usize> {
 }
 
 /// Calls as `cruise_calls` reads them: all thirteen words are set anew before a car is made; a car without check and one
-/// that is read are set as records; record calls and sightings are left out.
+/// that is read are set as records; record calls and most refused sightings are left out.
 fn lent_calls(calls: &[Call]) -> Result<Vec<u32>, String> {
     let mut words = Vec::new();
     let mut ran = 0;
+    let mut not_seen = 0;
     for (call, outcome) in chosen_calls(calls) {
         match call {
             Call::Fresh { mode, signs } => {
@@ -235,8 +294,51 @@ fn lent_calls(calls: &[Call]) -> Result<Vec<u32>, String> {
                 words.extend(set(&record));
             }
             Call::Read(record) => words.extend(set(record)),
-            Call::Record { .. } | Call::Sight(_) => {}
+            Call::Record { .. } => {}
+            Call::Sight(sighting) => {
+                let is_refused = outcome.refusal > 0;
+                if !is_refused || not_seen % SIGHTS_BETWEEN == 0 {
+                    words.extend(lent_sight(12, numbers(*sighting)));
+                }
+                not_seen += usize::from(is_refused);
+            }
         }
+    }
+    Ok(words)
+}
+
+fn lent_sight(lent: u32, [kind, metres, kmh]: [u32; 3]) -> [u32; 5] {
+    [5, lent, kind, metres, kmh]
+}
+
+/// Kinds that no sighting has, with floats of a good one, of one that 22 refuses and of one that 23 does.
+const OTHER_KINDS: [[u32; 3]; 6] = [
+    [3, TWENTY, HUNDRED],
+    [3, NO_NUMBER, HUNDRED],
+    [4, TWENTY, ABOVE_500],
+    [0x8000_0000, TWENTY, HUNDRED],
+    [0xFFFF_FFFF, TWENTY, HUNDRED],
+    [0xFFFF_FFFF, MINUS_ONE, INFINITE],
+];
+
+/// On the good cars that `calls` has for them, of other kinds too where the radar is ready; and some that are refused
+/// with 18, with 0, 11 and 13 words lent and on the car that is not good.
+fn lent_sights() -> Result<Vec<u32>, String> {
+    let [ready, not_ready, key_out, bad] = sighted_cars()?;
+    let set_car =
+        |car: Fields| car.record().map(|record| set(&record)).ok_or("cruise_calls: a car that no record shows");
+    let mut words = Vec::new();
+    for car in [not_ready, key_out, ready] {
+        words.extend(set_car(car)?);
+        words.extend(SIGHTINGS.into_iter().flat_map(|sighting| lent_sight(12, sighting)));
+    }
+    words.extend(OTHER_KINDS.into_iter().flat_map(|sighting| lent_sight(12, sighting)));
+    for lent in [0, 11, 13, 12] {
+        if lent == 12 {
+            words.extend(set_car(bad)?);
+        }
+        let not_driven = [SIGHTINGS[0], SIGHTINGS[4], SIGHTINGS[7], OTHER_KINDS[0], OTHER_KINDS[4]];
+        words.extend(not_driven.into_iter().flat_map(|sighting| lent_sight(lent, sighting)));
     }
     Ok(words)
 }
@@ -546,14 +648,6 @@ fn chosen_mark(events: &[Listed], chosen: Chosen) -> u32 {
 
 // ---------------------------------------------------------------- sightings
 
-/// Floats as their bits: 20, 100, the one next to 500 and -1, an infinite one and one that is no number.
-const TWENTY: u32 = 0x41A0_0000;
-const HUNDRED: u32 = 0x42C8_0000;
-const ABOVE_500: u32 = 0x43FA_0001;
-const MINUS_ONE: u32 = 0xBF80_0000;
-const INFINITE: u32 = 0x7F80_0000;
-const NO_NUMBER: u32 = 0x7FC0_0000;
-
 /// Floats that a vehicle is refused for with 22: no numbers of both signs, infinite ones and some below zero.
 const BAD_FLOATS: [u32; 8] =
     [0x7F80_0001, NO_NUMBER, 0xFFFF_FFFF, INFINITE, 0xFF80_0000, 0x8000_0001, MINUS_ONE, 0xFF7F_FFFF];
@@ -572,15 +666,6 @@ pub fn sightings(folder: &Folder) -> Result<Vec<u8>, String> {
         }
     }
     Ok(bytes_of(&words))
-}
-
-/// A sighting's kind and floats; a free road and a fault have none.
-fn numbers(sighting: Sighting) -> [u32; 3] {
-    match sighting {
-        Sighting::Vehicle { metres, kmh } => [0, metres, kmh],
-        Sighting::Free => [1, 0, 0],
-        Sighting::Fault => [2, 0, 0],
-    }
 }
 
 // ---------------------------------------------------------------- mark

@@ -1,6 +1,6 @@
 -- Demand 3 holds of every list of the library's calls on one record.
 -- Assumes nothing.
-use Rattle.std.specs.Prelude.{true, ◌≡◌, ℕ, length}
+use Rattle.std.specs.Prelude.{true, ◌≡◌, ℕ, length, Option, Some, None}
 use mathlib.Core.List.{List, [], ◌∷◌, append-nil}
 use Rattle.std.proofs.Math.Path.{refl, sym, ap}
 use Rattle.std.proofs.Common.{◌∙◌, arith, drop_of_length-le}
@@ -20,8 +20,12 @@ use Rattle.record.proofs.RecordLaws.{packed_read, good_saved}
 use Rattle.record.specs.RecordLesson.{LessonLeft, lesson_left}
 use Rattle.trainer.specs.Calls.{Call, word, lesson, Outcome, drove, taught, kept, outcome, car_of, given, ends}
 use Rattle.trainer.proofs.Demand3Laws.{ends_append, demand_3, outcome_given}
-use Rattle.cruise.specs.Cruise.{fresh_left, drive_left}
-use Rattle.callers.specs.Callers.{LibraryCall, cruise_fresh, cruise_drive, cruise_lesson, cruise_test, plain, left, words_after, Session, begun, going, record_call, heard_fresh, heard, heard_all, first, last, recorded, given_fresh, given_in, Calling}
+use Rattle.car.specs.Drive.{drive_of}
+use Rattle.sighting.specs.declared.Sighting.{Sighting}
+use Rattle.scene.specs.SceneCalls.{heard_sight}
+use Rattle.cruise.specs.Cruise.{fresh_left, drive_left, sighting_of, handed_word, see_left}
+use Rattle.cruise.proofs.CruiseLaws.{see_driven, see_fault, see_refusal}
+use Rattle.callers.specs.Callers.{LibraryCall, cruise_fresh, cruise_drive, cruise_lesson, cruise_see, cruise_test, plain, left, words_after, Session, begun, going, record_call, heard_fresh, heard, heard_all, first, last, recorded, given_fresh, given_see, given_in, Calling}
 
 -- ---- a record of twelve words and a fresh car
 fresh_left_lem : (c : Car) (ws : List ℕ) → good_of c ≡ true → length ws ≡ 12 → fresh_left ws (gives c) ≡ record { refusal = 0; words = packed c }
@@ -38,14 +42,24 @@ record Met (ws : List ℕ) (s : Session) : Type 0 where
 last_good : (s : Session) → Permitted s.mode s.signs → good_of (last s) ≡ true
 last_good s p = good_test _ (demand_3 s.mode s.signs p s.calls).standing
 
-going_met : (s : Session) (k : Call) → Permitted s.mode s.signs → Met (recorded (outcome (last s) k)).words (going s k)
-unfolding going recorded plain ends car_of
-going_met s k p = record { permitted = p; words = by (outcome (last s) k) ∙ ap packed (sym (ends_append (first s) s.calls (k ∷ []))) }
+going_met : (s : Session) (ks : List Call) → Permitted s.mode s.signs → Met (packed (ends (last s) ks)) (going s ks)
+unfolding going
+going_met s ks p = record { permitted = p; words = ap packed (sym (ends_append (first s) s.calls ks)) }
+
+one_met : (s : Session) (k : Call) → Permitted s.mode s.signs → Met (recorded (outcome (last s) k)).words (going s (k ∷ []))
+unfolding recorded plain ends car_of
+one_met s k p = rw (by (outcome (last s) k)) (going_met s (k ∷ []) p)
   where
     by : (o : Outcome) → (recorded o).words ≡ packed (car_of o)
     by (drove d) = refl
     by (taught t b) = refl
     by (kept x b) = refl
+
+see_met : (s : Session) (a : Answer (Option ℕ)) → Permitted s.mode s.signs → Met (given_see s a).words (going s (heard_sight a))
+unfolding given_see heard_sight plain ends
+see_met s (gives (Some w)) p = one_met s (word w) p
+see_met s (gives None) p = going_met s [] p
+see_met s (refused n) p = going_met s [] p
 
 -- a call of a session leaves the record of the session that goes on
 given_met : (s : Session) (k : LibraryCall) → Permitted s.mode s.signs → Met (given_in s k).words (heard s k)
@@ -55,9 +69,10 @@ given_met s (cruise_fresh w) p = go (start_of w) refl
     go : (a : Answer Car) → start_of w ≡ a → Met (given_fresh s w a).words (heard_fresh s w a)
     go (gives c) e = record { permitted = (started_written w c e).permitted; words = refl }
     go (refused n) e = record { permitted = p; words = refl }
-given_met s (cruise_drive w) p = going_met s (word w) p
-given_met s (cruise_lesson events answers) p = going_met s (lesson events answers) p
-given_met s cruise_test p = going_met s record_call p
+given_met s (cruise_drive w) p = one_met s (word w) p
+given_met s (cruise_lesson events answers) p = one_met s (lesson events answers) p
+given_met s (cruise_see kind metres kmh) p = see_met s (handed_word (sighting_of kind metres kmh)) p
+given_met s cruise_test p = one_met s record_call p
 
 module _ (ws : List ℕ) (s : Session) (m : Met ws s) where
   is_good : good_of (last s) ≡ true
@@ -84,11 +99,22 @@ module _ (ws : List ℕ) (s : Session) (m : Met ws s) where
       rw t.car (fresh_left_lem _ ws (permitted_good _ _ t.permitted) is_twelve)
   fresh_gave w (refused n) e = rw (refused_17 w n e, m.words)
 
+  drive_gave : (w : ℕ) → drive_left ws (read_of ws) w ≡ record { refusal = (drive_of (last s) w).refusal; words = packed (drive_of (last s) w).car }
+  unfolding drive_left
+  drive_gave w = rw is_read
+
+  see_gave : (x : Answer Sighting) (a : Answer (Option ℕ)) → handed_word x ≡ a → plain (see_left ws (read_of ws) x) ≡ given_see s a
+  unfolding given_see recorded outcome number_of pick
+  see_gave x (gives (Some w)) h = ap plain (sym (see_driven ws x w h) ∙ drive_gave w)
+  see_gave x (gives None) h = ap plain (sym (see_fault ws x h) ∙ rw (is_read, m.words) refl)
+  see_gave x (refused n) h = ap plain (sym (see_refusal ws x n h) ∙ rw (is_read, m.words) refl)
+
   gave : (k : LibraryCall) → left ws k ≡ given_in s k
   unfolding left given_in drive_left lesson_left recorded outcome
   gave (cruise_fresh w) = ap plain (fresh_gave w (start_of w) refl)
-  gave (cruise_drive w) = rw is_read
+  gave (cruise_drive w) = ap plain (drive_gave w)
   gave (cruise_lesson events answers) = rw is_read
+  gave (cruise_see kind metres kmh) = see_gave (sighting_of kind metres kmh) _ refl
   gave cruise_test = test_gave
 
   after_met : (k : LibraryCall) → Met (left ws k).words (heard s k)

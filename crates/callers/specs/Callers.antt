@@ -1,6 +1,6 @@
 -- Calls of the library on one record, one after the other, as the calls of demand 3. What a call gives is what its contract cites.
 -- Assumes nothing.
-use Rattle.std.specs.Prelude.{List, [], ◌∷◌, ◌++◌, ◌≡◌, ℕ, replicate}
+use Rattle.std.specs.Prelude.{List, [], ◌∷◌, ◌++◌, ◌≡◌, ℕ, Float, Option, Some, None, replicate}
 use Rattle.kit.specs.Answer.{Answer, gives, refused, number_of}
 use Rattle.car.specs.declared.Car.{Car}
 use Rattle.car.specs.Car.{fresh_car, settings_of, Permitted}
@@ -10,24 +10,27 @@ use Rattle.record.specs.Record.{read_of}
 use Rattle.record.specs.RecordLesson.{LessonLeft, lesson_left}
 use Rattle.trainer.specs.Calls.{Call, word, lesson, keep, Outcome, drove, taught, kept, outcome, ends}
 use Rattle.trainer.specs.Demand3.{Demand3}
-use Rattle.cruise.specs.Cruise.{Left, fresh_left, drive_left}
+use Rattle.scene.specs.SceneCalls.{heard_sight}
+use Rattle.cruise.specs.Cruise.{Left, fresh_left, drive_left, sighting_of, handed_word, see_left}
 
--- a call on the record, with what else it is handed: a settings word; a word; words and answer buffer
+-- a call on the record, with what else it is handed: a settings word; a word; words and answer buffer; a sighting's kind and its floats
 pub data LibraryCall : Type 0 where
   cruise_fresh : ℕ → LibraryCall
   cruise_drive : ℕ → LibraryCall
   cruise_lesson : List ℕ → List ℕ → LibraryCall
+  cruise_see : ℕ → Float → Float → LibraryCall
   cruise_test : LibraryCall
 
 -- what a call with no answer buffer and no counts leaves
 unfoldable pub plain : Left → LessonLeft
 plain l = record { refusal = l.refusal; words = l.words; answers = []; accepted = 0; refused = 0 }
 
--- all that a call gives and leaves, from the record's words: the contracts of `cruise_fresh`, `cruise_drive`, `cruise_lesson`, `cruise_test`
+-- all that a call gives and leaves, from the record's words: the contracts of `cruise_fresh`, `cruise_drive`, `cruise_lesson`, `cruise_see`, `cruise_test`
 unfoldable pub left : List ℕ → LibraryCall → LessonLeft
 left ws (cruise_fresh w) = plain (fresh_left ws (start_of w))
 left ws (cruise_drive w) = plain (drive_left ws (read_of ws) w)
 left ws (cruise_lesson events answers) = lesson_left ws (read_of ws) events answers
+left ws (cruise_see kind metres kmh) = plain (see_left ws (read_of ws) (sighting_of kind metres kmh))
 left ws cruise_test = plain (record { refusal = number_of (read_of ws); words = ws })
 
 -- the record's words after a list of calls
@@ -44,8 +47,8 @@ pub record Session : Type 0 where
 unfoldable pub begun : ℕ → ℕ → Session
 begun mode signs = record { mode = mode; signs = signs; calls = [] }
 
-unfoldable pub going : Session → Call → Session
-going s k = record { mode = s.mode; signs = s.signs; calls = s.calls ++ k ∷ [] }
+unfoldable pub going : Session → List Call → Session
+going s ks = record { mode = s.mode; signs = s.signs; calls = s.calls ++ ks }
 
 -- the record written and read back, which is what `cruise_test` tries
 abbrev pub record_call : Call
@@ -56,11 +59,13 @@ unfoldable pub heard_fresh : Session → ℕ → Answer Car → Session
 heard_fresh s w (gives c) = begun (mode_of w) (signs_of w)
 heard_fresh s w (refused n) = s
 
+-- a sighting is what demand 3 hears of it: with an event the call of its word; a fault and one that is turned away are no call of the list
 unfoldable pub heard : Session → LibraryCall → Session
 heard s (cruise_fresh w) = heard_fresh s w (start_of w)
-heard s (cruise_drive w) = going s (word w)
-heard s (cruise_lesson events answers) = going s (lesson events answers)
-heard s cruise_test = going s record_call
+heard s (cruise_drive w) = going s (word w ∷ [])
+heard s (cruise_lesson events answers) = going s (lesson events answers ∷ [])
+heard s (cruise_see kind metres kmh) = going s (heard_sight (handed_word (sighting_of kind metres kmh)))
+heard s cruise_test = going s (record_call ∷ [])
 
 unfoldable pub heard_all : Session → List LibraryCall → Session
 heard_all s [] = s
@@ -85,10 +90,17 @@ unfoldable pub given_fresh : Session → ℕ → Answer Car → Left
 given_fresh s w (gives c) = record { refusal = 0; words = packed (fresh_car (settings_of (mode_of w) (signs_of w))) }
 given_fresh s w (refused n) = record { refusal = 17; words = packed (last s) }
 
+-- what the event's word gives; with none the car as it was, and the refusal, 0 for a fault
+unfoldable pub given_see : Session → Answer (Option ℕ) → LessonLeft
+given_see s (gives (Some w)) = recorded (outcome (last s) (word w))
+given_see s (gives None) = plain (record { refusal = 0; words = packed (last s) })
+given_see s (refused n) = plain (record { refusal = n; words = packed (last s) })
+
 unfoldable pub given_in : Session → LibraryCall → LessonLeft
 given_in s (cruise_fresh w) = plain (given_fresh s w (start_of w))
 given_in s (cruise_drive w) = recorded (outcome (last s) (word w))
 given_in s (cruise_lesson events answers) = recorded (outcome (last s) (lesson events answers))
+given_in s (cruise_see kind metres kmh) = given_see s (handed_word (sighting_of kind metres kmh))
 given_in s cruise_test = recorded (outcome (last s) record_call)
 
 -- what holds of a list of calls on a record, which starts with a fresh car of the settings word of mode and signs: words are those of the

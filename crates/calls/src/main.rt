@@ -1,6 +1,8 @@
 // Runs the calls of standard input (words, little-endian): 1 mode signs, a fresh car; 2 and 23 fields, a car as it stands; 3 word, one
-// word driven; 4 size count words, a lesson with an answer buffer of that size; 5 size, a record call with a buffer of that size; 0 ends.
-// Prints for each its refusal (a lesson's counts behind it; a word's answer word, and whether the cars before and after it are alike), then its buffer, then the car's fields in document 01's order.
+// word driven; 4 size count words, a lesson with an answer buffer of that size; 5 size, a record call with a buffer of that size; 6 kind metres
+// kmh, a sighting, the floats as their bits; 0 ends.
+// Prints for each its refusal (a lesson's counts behind it; a word's answer word, and whether the cars before and after it are alike; 1 for a
+// sighting that is a fault), then its buffer, then the car's fields in document 01's order.
 #![tactic(auto)]
 
 use car::Car;
@@ -82,13 +84,25 @@ fn record_call(car: &mut Car, input: &mut Reader<'_>, page: &mut Page<'_>) {
     kept(car, &mut buffer[..size], page);
 }
 
+fn see(car: &mut Car, input: &mut Reader<'_>, page: &mut Page<'_>) {
+    let [kind, metres, kmh] = input.take::<3>();
+    let seen = scene::see(*car, tester::sighting(kind, metres, kmh));
+    let refusal = number(&seen);
+    let fault = matches!(seen, Ok(None));
+    page.words_line(&[refusal, event::bit(fault)]);
+    if let Ok(Some(after)) = seen {
+        *car = after;
+    }
+}
+
 // A kind is the input's own number: an enum would name each case a second time.
 fn any_other(kind: u32, car: &mut Car, input: &mut Reader<'_>, page: &mut Page<'_>) {
     match kind {
         2 => set(car, input),
         3 => drive(car, input, page),
         4 => lesson(car, input, page),
-        _ => record_call(car, input, page),
+        5 => record_call(car, input, page),
+        _ => see(car, input, page),
     }
 }
 

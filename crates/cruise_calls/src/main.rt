@@ -1,6 +1,7 @@
 // Runs every function of the library over thirteen words of its own. Standard input (words, little-endian) holds calls: the kind, how
 // many of the thirteen words are lent, and what the kind needs: 1 words, as many as are lent, to take their place; 2 mode signs, a fresh
-// car; 3 word, one word driven; 4 room count words, a lesson with that room for answers; 0 ends.
+// car; 3 word, one word driven; 4 room count words, a lesson with that room for answers; 5 kind metres kmh, a sighting, the floats as their
+// bits; 0 ends.
 // Prints for each, but kind 1, its refusal (a lesson's counts behind it, and in a line its sixteen words for answers) and the thirteen
 // words; for each, of the words lent: the test's refusal; the figures' and the figures (of a the sign, 1 below 0, and the size); that of
 // alike and whether the words before the call are alike.
@@ -52,13 +53,20 @@ fn lesson(words: &mut [u32], input: &mut Reader<'_>, page: &mut Page<'_>) {
     page.words_line(&answers);
 }
 
+fn see(words: &mut [u32], input: &mut Reader<'_>, page: &mut Page<'_>) {
+    let [kind, metres, kmh] = input.take::<3>();
+    let refusal = cruise::cruise_see(words, kind, tester::float(metres), tester::float(kmh));
+    page.words_line(&[refusal]);
+}
+
 // A kind is the input's own number: an enum would name each case a second time.
 fn call(kind: u32, words: &mut [u32], input: &mut Reader<'_>, page: &mut Page<'_>) {
     match kind {
         1 => input.fill(words),
         2 => fresh(words, input, page),
         3 => drive(words, input, page),
-        _ => lesson(words, input, page),
+        4 => lesson(words, input, page),
+        _ => see(words, input, page),
     }
 }
 
