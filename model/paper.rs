@@ -568,6 +568,9 @@ impl Car {
         if !self.cruise {
             return by_gas.min(30);
         }
+        if self.gas > 90 {
+            return by_gas.min(30);
+        }
         if self.is_close() {
             return if self.speed > 0 { -30 } else { 0 };
         }

@@ -437,7 +437,8 @@ impl Car {
             if self.adaptive && self.r.wrapping_sub(1) < 254 {
                 let near = (self.r + 1) * 360;
                 warnings = u32::from(near <= 15 * self.v) << 5 | u32::from(near <= 8 * self.v) << 6;
-                close = if self.w | self.v == 0 { self.r < 2 } else { near <= self.gap_in_use() * self.v };
+                close = self.g <= 90
+                    && if self.w | self.v == 0 { self.r < 2 } else { near <= self.gap_in_use() * self.v };
                 target = target.min(self.w);
             }
             a = if close {

@@ -6,7 +6,7 @@ use Rattle.kit.specs.Bounds.{speed_ceiling, full_brake, full_gas, most_rise, mos
 use Rattle.kit.specs.Pick.{pick_case, pick_le}
 use Rattle.motion.specs.declared.Acceleration.{Acceleration}
 use Rattle.motion.specs.Acceleration.{target, acceleration_code}
-use Rattle.motion.proofs.AccelerationLaws.{Banded, Signed, banded_le, speeding_small, braked_small, coasting_small, backed_off_small, cruising_small, change_small, speeding_signed, braked_signed, coasting_signed, backed_off_signed, cruising_signed}
+use Rattle.motion.proofs.AccelerationLaws.{Banded, Signed, banded_le, speeding_small, braked_small, pulled_small, backed_off_small, cruising_small, change_small, speeding_signed, braked_signed, pulled_signed, backed_off_signed, cruising_signed}
 use Rattle.motion.proofs.SignedLaws.{code_le}
 use Rattle.motion.specs.Speed.{change}
 use Rattle.car.specs.declared.Car.{Car}
@@ -26,9 +26,10 @@ unfolding acceleration_of
 acceleration_small c r =
     pick_case Small _ _ _ (λ _. speeding_small 0 (omega arith))
     (λ _. pick_case Small _ _ _ (λ _. braked_small _ _ r.brake)
-    (λ _. pick_case Small _ _ _ (λ _. coasting_small _)
+    (λ _. pick_case Small _ _ _ (λ _. pulled_small _)
+    (λ _. pick_case Small _ _ _ (λ _. pulled_small _)
     (λ _. pick_case Small _ _ _ (λ _. backed_off_small _)
-    (λ _. cruising_small _ _ _))))
+    (λ _. cruising_small _ _ _)))))
 
 -- so that a + 60 is not below 0, nor above 90
 pub acceleration_size : (c : Car) → Ranges c → (acceleration_of c).size ≤ 60
@@ -46,6 +47,7 @@ unfolding acceleration_of
 acceleration_signed c =
     pick_case Signed _ _ _ (λ _. speeding_signed 0)
     (λ _. pick_case Signed _ _ _ (λ _. braked_signed _ _)
-    (λ _. pick_case Signed _ _ _ (λ _. coasting_signed _)
+    (λ _. pick_case Signed _ _ _ (λ _. pulled_signed _)
+    (λ _. pick_case Signed _ _ _ (λ _. pulled_signed _)
     (λ _. pick_case Signed _ _ _ (λ _. backed_off_signed _)
-    (λ _. cruising_signed _ _ _))))
+    (λ _. cruising_signed _ _ _)))))

@@ -9,7 +9,7 @@ use Rattle.event.specs.declared.Input.TheVariants.{Key, Gas, Radar}
 use Rattle.event.specs.Words.{input_kind, input_range, judged, key_word, radar_word, key_on_of, inputs_of, input_of, tick_word, input_event, read_of, bit_of, input_word, word_of}
 use Rattle.event.proofs.WordLaws.{gap_le}
 use Rattle.checks.specs.Checks.{key_on, key_skips, key_check, pedal_check, radar_check, tick_check}
-use Rattle.motion.specs.Acceleration.{speeding, gas_term, coasting}
+use Rattle.motion.specs.Acceleration.{speeding, gas_term, pulled}
 use Rattle.motion.specs.Speed.{change, moved, at_most}
 use Rattle.car.specs.declared.Car.{Car}
 use Rattle.car.specs.Acceleration.{acceleration_of}
@@ -52,5 +52,5 @@ unfoldable pub fastest : Car
 fastest = driven (fresh_car (settings_of 2 0)) reaching
 
 pub product_reached : (30 * fastest.speed ≡ largest_product) × (secure_distance fastest ≡ 416)
-unfolding fastest reaching fresh_car settings_of driven step_of chosen check_of reading_check event_check input_check own_check next_of reading_next event_next input_next word_of input_word bit_of read_of input_event tick_word input_of inputs_of key_on_of radar_word key_word judged input_range input_kind key_on key_skips key_check pedal_check radar_check tick_check key_radar key_turned gas_pressed reading_taken test_due radar_after tick_desired holds_desired tick_speed ticked acceleration_of speeding gas_term coasting change moved at_most with_pedals with_limiter with_radar metres secure_distance pick
+unfolding fastest reaching fresh_car settings_of driven step_of chosen check_of reading_check event_check input_check own_check next_of reading_next event_next input_next word_of input_word bit_of read_of input_event tick_word input_of inputs_of key_on_of radar_word key_word judged input_range input_kind key_on key_skips key_check pedal_check radar_check tick_check key_radar key_turned gas_pressed reading_taken test_due radar_after tick_desired holds_desired tick_speed ticked acceleration_of speeding gas_term pulled change moved at_most with_pedals with_limiter with_radar metres secure_distance pick
 product_reached = (refl, refl)

@@ -3,7 +3,7 @@
 use Rattle.std.specs.Prelude.{Bool, true, false, ◌≡◌, refl, [], ◌∷◌, ℕ, ℤ, pos, neg_ℤ}
 use Rattle.kit.specs.Pick.{pick}
 use Rattle.desired.specs.Desired.{up5, up7, down5, hundred_below, down7, stepped, long_held, held}
-use Rattle.motion.specs.Acceleration.{signed, speeding, slowing, brake_term, gas_term, braked, coasting, eased, towards, pushed, urged, cruising}
+use Rattle.motion.specs.Acceleration.{signed, speeding, slowing, brake_term, gas_term, braked, pulled, eased, towards, pushed, urged, cruising}
 use Rattle.motion.specs.Speed.{change}
 use Rattle.car.specs.declared.Car.{Car}
 use Rattle.car.specs.Car.{ceiling_of}
@@ -55,9 +55,9 @@ pub figures_together :
     ∷ signed (braked 225 500)  -- brake at v 500: 225,
     ∷ signed (braked 4 500)  -- 4,
     ∷ signed (braked 3 500)  -- 3
-    ∷ signed (coasting 225)  -- gas, cruise off: 225,
-    ∷ signed (coasting 8)  -- 8,
-    ∷ signed (coasting 7)  -- 7;
+    ∷ signed (pulled 225)  -- gas, cruise off: 225,
+    ∷ signed (pulled 8)  -- 8,
+    ∷ signed (pulled 7)  -- 7;
     ∷ signed (cruising 225 500 400)  -- cruise on, v 500, X 400: 225
     ∷ pos (stepped 2000 2 570)  -- up7 from 570
     ∷ pos (stepped 2000 4 570)  -- down7 from 570;
@@ -86,5 +86,5 @@ pub figures_together :
     ∷ pos 27
     ∷ pos 1 ∷ pos 0
     ∷ []
-unfolding signed change speeding slowing brake_term braked gas_term coasting eased towards pushed urged cruising stepped up5 up7 down5 hundred_below down7 held long_held secure_distance metres visual within ahead ticked tick_desired hold_desired ceiling_of pick
+unfolding signed change speeding slowing brake_term braked gas_term pulled eased towards pushed urged cruising stepped up5 up7 down5 hundred_below down7 held long_held secure_distance metres visual within ahead ticked tick_desired hold_desired ceiling_of pick
 figures_together = refl

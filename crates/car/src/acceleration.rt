@@ -1,9 +1,10 @@
 // The acceleration a of a car (document 01, "Rules of each event"), by its code a + 60.
-ghost use Rattle.std.specs.Prelude.{◌≡◌, ◌≤◌};
+ghost use Rattle.std.specs.Prelude.{◌&&◌, ◌≡◌, ◌≤◌, leb};
 ghost use Rattle.kit.specs.Bounds.{speed_ceiling};
-ghost use Rattle.motion.specs.Acceleration.{speeding, slowing, brake_term, gas_term, braked, coasting, towards, cruising, acceleration_code};
+ghost use Rattle.motion.specs.Acceleration.{speeding, slowing, brake_term, gas_term, braked, pulled, towards, cruising, acceleration_code};
 ghost use Rattle.motion.specs.AccelerationShape.{strived, urged_code};
 ghost use Rattle.car.specs.Acceleration.{target_of, acceleration_of};
+ghost use Rattle.car.specs.Distance.{close};
 
 use crate::checked::GoodCar;
 use motion::{Acceleration, backed_off, decoded};
@@ -75,23 +76,23 @@ impl GoodCar {
         slowing(self.brake_term())
     }
 
-    // The gas term of a pedal in its range is at most 30 already, here and in `urged`.
-    #[tactic(auto, using(kit::specs::Pick::picks, motion::proofs::AccelerationLaws::gas_term_le), unfolding(motion::specs::Acceleration::coasting))]
-    fn coasting(self) -> u32
-        ensures { result ≡ acceleration_code (coasting self.car.pedals.gas) }
+    // The gas term of a pedal in its range is at most 30 already.
+    #[tactic(auto, using(kit::specs::Pick::picks, motion::proofs::AccelerationLaws::gas_term_le), unfolding(motion::specs::Acceleration::pulled))]
+    fn pulled(self) -> u32
+        ensures { result ≡ acceleration_code (pulled self.car.pedals.gas) }
     {
         speeding(self.gas_term())
     }
 
     // a from the code of s, by the gas.
-    #[tactic(auto, using(kit::specs::Pick::picks, motion::proofs::AccelerationLaws::gas_term_le), unfolding(motion::specs::AccelerationShape::urged_code))]
+    #[tactic(auto, using(kit::specs::Pick::picks), unfolding(motion::specs::AccelerationShape::urged_code))]
     fn urged(self, s: u32) -> u32
         ensures { result ≡ urged_code self.car.pedals.gas s }
     {
         if self.car.pedals.gas == 0 {
             return s;
         }
-        60 + self.gas_term().max(s.saturating_sub(60))
+        self.pulled().max(s)
     }
 
     #[tactic(auto, using(motion::proofs::AccelerationShapeLaws::cruising_code, crate::proofs::AccelerationLaws::target_le), unfolding(crate::specs::Acceleration::target_of))]
@@ -102,14 +103,25 @@ impl GoodCar {
         self.urged(towards(self.car.speed, target))
     }
 
+    // Close, and no kick-down (gas above 90), which goes first.
+    #[tactic(auto, using(kit::specs::Pick::picks), unfolding(crate::specs::Distance::close, crate::specs::Distance::within))]
+    fn backs_off(self) -> bool
+        ensures { result ≡ (leb self.car.pedals.gas 90 && close self.car) }
+    {
+        if !self.ahead() | (self.car.pedals.gas > 90) {
+            return false;
+        }
+        self.car.radar.range < self.secure_distance()
+    }
+
     // a + 60. A good car with cruise on has the key on and no brake, so that its cases can come first; with the key not on it has neither
-    // pedal down, which gives 0 by the last case.
-    #[tactic(auto, using(crate::proofs::AccelerationShapeLaws::close_case, crate::proofs::AccelerationShapeLaws::cruising_case, crate::proofs::AccelerationShapeLaws::braked_case, crate::proofs::AccelerationShapeLaws::coasting_case))]
+    // pedal down, which gives 0 by the last case. Gas above 90 gives more than any s, so that `cruising` has kick-down too.
+    #[tactic(auto, using(crate::proofs::AccelerationShapeLaws::close_case, crate::proofs::AccelerationShapeLaws::cruising_case, crate::proofs::AccelerationShapeLaws::braked_case, crate::proofs::AccelerationShapeLaws::pulled_case))]
     pub(crate) fn acceleration_code(self) -> u32
         ensures { result ≡ acceleration_code (acceleration_of self.car) }
     {
         if self.car.cruise.on {
-            if self.close() {
+            if self.backs_off() {
                 return backed_off(self.car.speed);
             }
             return self.cruising();
@@ -117,7 +129,7 @@ impl GoodCar {
         if self.car.pedals.brake > 0 {
             return self.braked();
         }
-        self.coasting()
+        self.pulled()
     }
 
     #[tactic(auto, using(crate::proofs::AccelerationShapeLaws::decoded_code))]

@@ -1,7 +1,7 @@
-// Secure distance, "ahead", "close" and the two warnings (document 01, "Rules of each event").
+// Secure distance, "ahead" and the two warnings (document 01, "Rules of each event").
 ghost use Rattle.std.specs.Prelude.{◌≡◌, ◌*◌, ◌≤◌};
 ghost use Rattle.car.specs.DistanceShape.{following, largest_product};
-ghost use Rattle.car.specs.Distance.{metres, secure_distance, ahead, within, close, visual, acoustic};
+ghost use Rattle.car.specs.Distance.{metres, secure_distance, ahead, within, visual, acoustic};
 
 use crate::checked::GoodCar;
 
@@ -39,14 +39,6 @@ impl GoodCar {
             & (self.car.radar.range <= 254)
     }
 
-    // A car ahead, nearer than the distance.
-    #[tactic(auto, using(kit::specs::Pick::picks), unfolding(crate::specs::Distance::within))]
-    fn within(self, distance: u32) -> bool
-        ensures { result ≡ within self.car distance }
-    {
-        self.ahead() & (self.car.radar.range < distance)
-    }
-
     // N
     #[tactic(auto, using(kit::specs::Pick::picks, crate::specs::DistanceShape::following_le, crate::proofs::DistanceLaws::product_le, crate::specs::DistanceShape::secure_standing, crate::specs::DistanceShape::secure_following))]
     pub(crate) fn secure_distance(self) -> u32
@@ -56,16 +48,6 @@ impl GoodCar {
             return 2;
         }
         metres(self.following(), self.car.speed)
-    }
-
-    #[tactic(auto, using(kit::specs::Pick::picks), unfolding(crate::specs::Distance::close, crate::specs::Distance::within))]
-    pub(crate) fn close(self) -> bool
-        ensures { result ≡ close self.car }
-    {
-        if !self.ahead() {
-            return false;
-        }
-        self.within(self.secure_distance())
     }
 
     // A car ahead, nearer than the way in that many tenths of a second: R < p÷360 exactly when (R + 1)×360 ≤ p.

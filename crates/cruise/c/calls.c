@@ -6,8 +6,8 @@
 #include <stdio.h>
 #include <string.h>
 
-#if CRUISE_VERSION < 0x000600 || CRUISE_VERSION >= 0x010000
-#error "calls.c is for version 0.6 and those that keep to it"
+#if CRUISE_VERSION < 0x000700 || CRUISE_VERSION >= 0x010000
+#error "calls.c is for version 0.7 and those that keep to it"
 #endif
 
 /* What a buffer holds before a call, and the words round it always. */
@@ -499,6 +499,34 @@ static void pedals(void)
     }
 }
 
+/* Document 02, 8: a car too close (R 19, N 27) kicks down with gas above 90; the visual warning is on all the same. */
+static void kick_down(void)
+{
+    static const struct {
+        uint32_t pedals;
+        int32_t acceleration;
+        uint32_t after;
+    } cases[] = {
+        {0xB1000000, -30, 392}, /* gas 0 */
+        {0xB1005A00, -30, 392}, /* gas 90 */
+        {0xB1005B00, 12, 543},  /* gas 91 */
+        {0xB100E100, 30, 608},  /* full gas */
+    };
+    struct area record;
+    for (size_t i = 0; i < sizeof cases / sizeof cases[0]; i++) {
+        uint32_t car[WORDS];
+        uint32_t *at;
+        copy(car, behind);
+        car[1] = cases[i].pedals;
+        at = lay(&record, car, WORDS);
+        dials(__LINE__, at, WORDS, 0, 500, 900, cases[i].acceleration, 1, 0, 27);
+        EQUAL(cruise_drive(at, WORDS, 0xA0000001), CRUISE_ACCEPTED);
+        car[2] = 0xB2000000u | cases[i].after;
+        car[10] = 0xBA000001;
+        LEFT(record, car, WORDS);
+    }
+}
+
 /* Lessons of no words, and answer buffers of every length up to past the lesson's. */
 static void lessons(void)
 {
@@ -646,10 +674,11 @@ static void marks(void)
          {0xB0003C96, 0xB1000000, 0xB20001B0, 0xB3001354, 0xB400000A, 0xB5015164,
           0xB6000001, 0xB7135311, 0xB8001353, 0xB9000019, 0xBA01517F, 0xBB014F29},
          {0x500000E1, 0xA0000001, 0xA0000001, 0xA0000001, 0xA0000001, 0xA0000001}},
-        {1890u, 0, 0, 1, 3,
-         {0xB0003116, 0xB1000100, 0xB20007CF, 0xB300079C, 0xB42A0FB8, 0xB5000000,
-          0xB6000000, 0xB7135601, 0xB8001356, 0xB900001E, 0xBA015176, 0xBB015082},
-         {0x500000E1, 0xA0000001, 0xA0000001}},
+        /* kick-down behind a car too close */
+        {2080u, 0, 12, 1, 12,
+         {0xB0003C56, 0xB1000000, 0xB20003E8, 0xB30007D5, 0xB43E87D0, 0xB5014F84,
+          0xB60003E8, 0xB70A000B, 0xB8000000, 0xB9000019, 0xBA014FA0, 0xBB014FA0},
+         {0x40000000, 0x500000E1, 0xA0000001, 0xA0000001, 0xA0000001, 0xA0000001, 0xA0000001, 0xA0000001, 0xA0000001, 0xA0000001, 0xA0000001, 0xA0000001}},
         {0u, 0, 0, 10, 11,
          {0xB0002216, 0xB10000E0, 0xB2000004, 0xB3000002, 0xB4000320, 0xB5000000,
           0xB6000000, 0xB7000100, 0xB8000001, 0xB9000014, 0xBA000000, 0xBB000000},
@@ -1156,6 +1185,7 @@ int main(void)
     later_lessons();
     roundabout();
     pedals();
+    kick_down();
     lessons();
     copies();
     marks();

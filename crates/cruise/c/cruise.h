@@ -25,7 +25,7 @@ extern "C" {
 
 /* The version of this header and of the archive beside it: it rises with each change of what a function gives. */
 #define CRUISE_VERSION_MAJOR 0
-#define CRUISE_VERSION_MINOR 6
+#define CRUISE_VERSION_MINOR 7
 #define CRUISE_VERSION (CRUISE_VERSION_MAJOR << 16 | CRUISE_VERSION_MINOR << 8)
 
 /* How many words a record has. */

@@ -5,7 +5,7 @@ use Rattle.std.proofs.Common.{true≢false, sym, arith, ltb-true, ltb-false}
 use Rattle.kit.specs.Bounds.{pedal_ceiling, full_brake, full_gas, most_rise, most_fall}
 use Rattle.kit.specs.Pick.{pick, pick_le, le_pick, pick_case}
 use Rattle.motion.specs.declared.Acceleration.{Acceleration}
-use Rattle.motion.specs.Acceleration.{speeding, slowing, brake_term, gas_term, braked, coasting, backed_off, eased, towards, pushed, urged, cruising}
+use Rattle.motion.specs.Acceleration.{speeding, slowing, brake_term, gas_term, braked, pulled, backed_off, eased, towards, pushed, urged, cruising}
 use Rattle.motion.specs.Speed.{change}
 
 -- ---- a size within the band of its sign
@@ -38,9 +38,9 @@ pub braked_small : (b v : ℕ) → b ≤ pedal_ceiling → Small (braked b v)
 unfolding braked
 braked_small b v h = pick_case Small _ _ _ (λ _. speeding_small 0 (omega arith)) (λ _. slowing_small _ (brake_term_le b h))
 
-pub coasting_small : (g : ℕ) → Small (coasting g)
-unfolding coasting
-coasting_small g = speeding_small _ (omega arith)
+pub pulled_small : (g : ℕ) → Small (pulled g)
+unfolding pulled
+pulled_small g = speeding_small _ (omega arith)
 
 pub backed_off_small : (v : ℕ) → Small (backed_off v)
 unfolding backed_off
@@ -90,9 +90,9 @@ pub braked_signed : (b v : ℕ) → Signed (braked b v)
 unfolding braked
 braked_signed b v = pick_case Signed _ _ _ (λ _. speeding_signed 0) (λ _. slowing_signed _)
 
-pub coasting_signed : (g : ℕ) → Signed (coasting g)
-unfolding coasting
-coasting_signed g = speeding_signed _
+pub pulled_signed : (g : ℕ) → Signed (pulled g)
+unfolding pulled
+pulled_signed g = speeding_signed _
 
 pub backed_off_signed : (v : ℕ) → Signed (backed_off v)
 unfolding backed_off

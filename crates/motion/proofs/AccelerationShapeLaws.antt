@@ -4,11 +4,11 @@ use Rattle.std.specs.Prelude.{Bool, true, false, ◌≡◌, refl, ℕ, ◌+◌, 
 use Rattle.std.proofs.Common.{sym, ◌∙◌}
 use native.Mathlib.Omega.{arith}
 use borrow.Author.Tests.{lt-ltb, le-ltb, ltb-false}
-use Rattle.kit.specs.Bounds.{pedal_ceiling, speed_ceiling, full_brake, full_gas}
+use Rattle.kit.specs.Bounds.{speed_ceiling, full_brake, full_gas}
 use Rattle.kit.specs.Pick.{pick, pick_true, pick_false, pick_case}
 use Rattle.motion.specs.declared.Acceleration.{Acceleration}
-use Rattle.motion.specs.Acceleration.{speeding, slowing, gas_term, backed_off, eased, towards, pushed, urged, cruising, acceleration_code}
-use Rattle.motion.proofs.AccelerationLaws.{gas_term_le, towards_small}
+use Rattle.motion.specs.Acceleration.{speeding, slowing, gas_term, pulled, backed_off, eased, towards, pushed, urged, cruising, acceleration_code}
+use Rattle.motion.proofs.AccelerationLaws.{towards_small}
 use Rattle.motion.specs.AccelerationShape.{decoded, strived, urged_code, moved_by}
 use Rattle.motion.specs.Speed.{change, moved}
 
@@ -68,17 +68,17 @@ towards_at v x e = rw e (sym (pick_false _ _ _ same ∙ pick_false _ _ _ same))
     same : ltb x x ≡ false
     same = le-ltb x x (omega arith)
 
-urged_is : (term n : ℕ) (t slows : Bool) → term ≤ full_gas → n ≤ pick slows full_brake full_gas
-    → pick t (acceleration_code (record { slows = slows; size = n })) (60 + max term (acceleration_code (record { slows = slows; size = n }) - 60))
+urged_is : (term n : ℕ) (t slows : Bool) → n ≤ pick slows full_brake full_gas
+    → pick t (acceleration_code (record { slows = slows; size = n })) (max (60 + min 30 term) (acceleration_code (record { slows = slows; size = n })))
     ≡ acceleration_code (pick t (record { slows = slows; size = n }) (pushed term (record { slows = slows; size = n })))
 unfolding acceleration_code pushed speeding pick
-urged_is term n true slows l h = refl
-urged_is term n false true l h = omega arith
-urged_is term n false false l h = omega arith
+urged_is term n true slows h = refl
+urged_is term n false true h = omega arith
+urged_is term n false false h = omega arith
 
-pub cruising_code : (g v x : ℕ) → g ≤ pedal_ceiling → urged_code g (acceleration_code (towards v x)) ≡ acceleration_code (cruising g v x)
-unfolding cruising urged urged_code acceleration_code pushed speeding pick
-cruising_code g v x h = urged_is (gas_term g) (towards v x).size (eqb g 0) (towards v x).slows (gas_term_le g h) (towards_small v x)
+pub cruising_code : (g v x : ℕ) → urged_code g (acceleration_code (towards v x)) ≡ acceleration_code (cruising g v x)
+unfolding cruising urged urged_code acceleration_code pushed pulled speeding pick
+cruising_code g v x = urged_is (gas_term g) (towards v x).size (eqb g 0) (towards v x).slows (towards_small v x)
 
 moved_is : (v n : ℕ) (slows : Bool) → n ≤ 60
     → moved_by v (acceleration_code (record { slows = slows; size = n })) ≡ moved v (change (record { slows = slows; size = n }))

@@ -5,7 +5,7 @@ use Rattle.std.proofs.Common.{ap, arith, eqb-true}
 use Rattle.kit.specs.Bounds.{pedal_ceiling}
 use Rattle.kit.specs.Pick.{pick, pick_case}
 use Rattle.motion.specs.declared.Acceleration.{Acceleration}
-use Rattle.motion.specs.Acceleration.{signed, speeding, slowing, brake_term, gas_term, braked, coasting, pushed, urged, towards, cruising}
+use Rattle.motion.specs.Acceleration.{signed, speeding, slowing, brake_term, gas_term, braked, pulled, pushed, urged, towards, cruising}
 
 -- "b > 0", at any speed above 0
 pub full_brake_lem : (v : ℕ) → 0 < v → signed (braked pedal_ceiling v) ≡ neg_ℤ (pos 60)
@@ -13,10 +13,10 @@ unfolding signed slowing braked brake_term pick
 full_brake_lem v h =
     pick_case (λ (a : Acceleration). signed a ≡ neg_ℤ (pos 60)) (eqb v 0) _ _ (λ t. absurd (omega (arith, eqb-true v 0 t))) (λ _. refl)
 
--- "C = 0"
-pub full_gas_coasting : signed (coasting pedal_ceiling) ≡ pos 30
-unfolding signed speeding coasting gas_term pick
-full_gas_coasting = refl
+-- "C = 0", and gas above 90
+pub full_gas_pulled : signed (pulled pedal_ceiling) ≡ pos 30
+unfolding signed speeding pulled gas_term pick
+full_gas_pulled = refl
 
 -- "then a = .. min(30, max(g×30÷225, s))", at any speed, towards any X
 full_of : (slows : Bool) (n : ℕ) → signed (urged pedal_ceiling (record { slows = slows; size = n })) ≡ pos 30

@@ -28,9 +28,9 @@ gas_term g = g * full_gas / pedal_ceiling
 unfoldable pub braked : ℕ → ℕ → Acceleration
 braked b v = pick (eqb v 0) (speeding 0) (slowing (brake_term b))
 
--- "C = 0: min(30, g×30÷225)"
-unfoldable pub coasting : ℕ → Acceleration
-coasting g = speeding (min 30 (gas_term g))
+-- "C = 0: min(30, g×30÷225)"; document 02, §8: "gas above 90 now goes first and a is then min(30, gas term)"
+unfoldable pub pulled : ℕ → Acceleration
+pulled g = speeding (min 30 (gas_term g))
 
 -- "close: −30 if v > 0, else 0"
 unfoldable pub backed_off : ℕ → Acceleration

@@ -4,7 +4,7 @@ use Rattle.std.specs.Prelude.{ℕ, ◌+◌, ◌-◌, ◌*◌, ◌/◌, min, max,
 use Rattle.kit.specs.Bounds.{speed_ceiling}
 use Rattle.kit.specs.Pick.{pick}
 use Rattle.motion.specs.declared.Acceleration.{Acceleration}
-use Rattle.motion.specs.Acceleration.{gas_term}
+use Rattle.motion.specs.Acceleration.{pulled, acceleration_code}
 
 -- the acceleration of a code
 unfoldable pub decoded : ℕ → Acceleration
@@ -14,10 +14,9 @@ decoded code = record { slows = ltb code 60; size = (60 - code) + (code - 60) }
 unfoldable pub strived : ℕ → ℕ
 strived difference = max 1 (difference * 10 / 36)
 
--- "a = s if g = 0, else min(30, max(g×30÷225, s))", by the code of an s that is itself at most 30, as is the term of a pedal
--- in its range
+-- "a = s if g = 0, else min(30, max(g×30÷225, s))", by the code of an s that is itself at most 30: the larger of two codes is that of the larger a
 unfoldable pub urged_code : ℕ → ℕ → ℕ
-urged_code g s = pick (eqb g 0) s (60 + max (gas_term g) (s - 60))
+urged_code g s = pick (eqb g 0) s (max (acceleration_code (pulled g)) s)
 
 -- "v + a×36÷10 held to 0..5000", by the code of a
 unfoldable pub moved_by : ℕ → ℕ → ℕ

@@ -1,5 +1,6 @@
 // Lists the exercise files in data/, each cut into pieces of a size of its own: the expected output is their listings in the same order. All
-// are outside ones but roundabout.bin, whose listing, roundabout.txt, was worked out by hand. The longest, clock-end.bin, is the input of `lesson`.
+// are outside ones but roundabout.bin and kickdown.bin, whose listings, of the same names, were worked out by hand. The longest, clock-end.bin, is the
+// input of `lesson`.
 #![tactic(auto)]
 
 ghost use Rattle.std.specs.Prelude.{◌≤◌, length};
@@ -80,9 +81,10 @@ fn pages(rt: &HostRuntime) -> Result<(), Told> {
     list(rt, b"vectors: pages-cut.bin", 4096)
 }
 
-// Back to the old speed after a roundabout: D kept, taken by forward, and cleared.
-fn roundabout(rt: &HostRuntime) -> Result<(), Told> {
-    list(rt, b"vectors: roundabout.bin", 4)
+// Back to the old speed after a roundabout: D kept, taken by forward, and cleared. Then a car too close kicks down and lifts again.
+fn by_hand(rt: &HostRuntime) -> Result<(), Told> {
+    list(rt, b"vectors: roundabout.bin", 4)?;
+    list(rt, b"vectors: kickdown.bin", 4)
 }
 
 fn all(rt: &HostRuntime) -> Result<(), Told> {
@@ -90,7 +92,7 @@ fn all(rt: &HostRuntime) -> Result<(), Told> {
     words(rt)?;
     walks(rt)?;
     pages(rt)?;
-    roundabout(rt)
+    by_hand(rt)
 }
 
 fn main(rt: HostRuntime) {
