@@ -1,19 +1,15 @@
 -- Foot down while too close: document 02, §8. The list `KickDown` is complete: the cars whose a differs from that of the rule before are those of the
--- list, and no others, good or not. What a and v are on them.
+-- list, and no others, good or not. What a is on them, and that the brake goes first.
 -- Assumes nothing.
-use Rattle.std.specs.Prelude.{Bool, true, false, ◌↔◌, not, ◌≡◌, refl, ◌+◌, ◌≤◌, min, eqb, ltb, pos, ◌≤ℤ◌}
-use Rattle.std.proofs.Common.{sym, ◌∙◌, arith, ne_eqb, eqb-true, ltb-true, ltb-false}
-use Rattle.kit.specs.Bounds.{speed_ceiling, most_rise}
-use Rattle.kit.specs.Pick.{pick, picks, parts, either}
+use Rattle.std.specs.Prelude.{Bool, true, false, ◌↔◌, not, ◌≡◌, refl, ◌≤◌, eqb, ltb}
+use Rattle.std.proofs.Common.{sym, ◌∙◌, arith, eqb-true, ltb-true, ltb-false}
+use Rattle.kit.specs.Pick.{pick, picks, parts}
 use Rattle.motion.specs.declared.Acceleration.{Acceleration}
-use Rattle.motion.specs.Acceleration.{signed, speeding, gas_term, braked, pulled, backed_off, cruising}
-use Rattle.motion.specs.Speed.{change, moved, at_most}
-use Rattle.motion.proofs.KickDownLaws.{cruising_pulled, pulled_backed, pulled_band}
+use Rattle.motion.specs.Acceleration.{speeding, braked, pulled, backed_off, cruising}
+use Rattle.motion.proofs.KickDownLaws.{cruising_pulled, pulled_backed}
 use Rattle.car.specs.declared.Car.{Car}
 use Rattle.car.specs.Acceleration.{target_of, acceleration_of, KickDown}
 use Rattle.car.specs.Distance.{ahead, within, close}
-use Rattle.car.specs.Rules.{holds_desired, tick_speed, ticked}
-use Rattle.car.specs.Standing.{Good}
 
 -- ---- the rule before, in which close went first and gas above 90 had no case of its own. It stands here alone, for the comparison.
 unfoldable pub acceleration_before : Car → Acceleration
@@ -81,19 +77,3 @@ module _ (c : Car) where
 
   pub changed_exactly : (acceleration_before c ≡ acceleration_of c → ⊥) ↔ KickDown c
   changed_exactly = (listed, λ k e. pulled_backed c.pedals.gas c.speed k.gas (kick_before k ∙ e ∙ sym (kick_down k)))
-
-  -- "speeds up by at least 12 tenths, at most 30"
-  pub kick_down_band : KickDown c → (pos 12 ≤ℤ signed (acceleration_of c)) × (signed (acceleration_of c) ≤ℤ pos 30)
-  kick_down_band k = rw (sym (kick_down k)) (pulled_band c.pedals.gas k.gas)
-
-  -- S cannot be on there: (d) "S = 1: .. g ≤ 90"
-  pub kick_down_limiter : Good c → KickDown c → c.limiter.on ≡ false
-  kick_down_limiter g k = either c.limiter.on (λ t. let h = (g.limiter_on t).gas in absurd (omega (arith, k.gas))) (λ t. t)
-
-  -- so that the next tick takes all of it: v rises by 43 at least, (g) by 108 at most, to 5000
-  pub kick_down_tick : (ready : Bool) → Good c → KickDown c
-      → (min speed_ceiling (c.speed + 43) ≤ (ticked c ready).speed) × ((ticked c ready).speed ≤ c.speed + most_rise)
-  unfolding ticked tick_speed holds_desired at_most pick moved change pulled speeding gas_term
-  kick_down_tick ready g k =
-      let h = k.gas in
-      rw (sym (kick_down k), kick_down_limiter g k, k.cruise, ne_eqb c.pedals.gas 0 (omega arith)) (omega arith, omega arith)

@@ -2,6 +2,7 @@ pub mod AcceptedLaws
 pub mod BandLaws
 pub mod HistoryLaws
 pub mod KeptDesiredLaws
+pub mod KickDownLaws
 pub mod NeighbourLaws
 pub mod PedalsUpLaws
 pub mod RoundaboutLaws
