@@ -9,13 +9,13 @@ pub const UNUSED: u32 = 0xDEAD_BEEF;
 // ---------------------------------------------------------------- Fields
 
 /// The fields' names in document 01's order.
-const NAMES: [&str; 23] = [
+pub const NAMES: [&str; 23] = [
     "mode", "signs", "key", "L", "M", "b", "g", "H", "S", "C", "P", "v", "Z", "D", "E", "T", "B", "R", "W", "Y", "G",
     "now", "Q",
 ];
 
 /// A car as its fields in document 01's order.
-#[derive(Clone, Copy, PartialEq, Eq)]
+#[derive(Clone, Copy, PartialEq, Eq, Debug)]
 pub struct Fields(pub [u32; 23]);
 
 /// The field's place in a record.
@@ -266,5 +266,44 @@ pub fn converted([kind, metres, kmh]: [u32; 3]) -> (u32, u32) {
     match Sighting::new(kind, metres, kmh).ok_or(1).and_then(Sighting::reading) {
         Ok(reading) => (0, reading.map_or(0, Reading::word)),
         Err(refusal) => (refusal, 0),
+    }
+}
+
+// ---------------------------------------------------------------- Pairs
+
+/// Two records of twelve words, one behind the other.
+#[derive(Clone, Copy)]
+pub struct Pair(pub [u32; 24]);
+
+impl Pair {
+    pub fn of(first: Fields, second: Fields) -> Option<Pair> {
+        [first.record()?, second.record()?].concat().try_into().ok().map(Pair)
+    }
+
+    fn cars(&self) -> [Option<Car>; 2] {
+        [&self.0[..12], &self.0[12..]].map(Car::read)
+    }
+
+    /// Are their cars alike? None: one is no record of a car.
+    pub fn alike(&self) -> Option<bool> {
+        match self.cars() {
+            [Some(first), Some(second)] => Some(first.alike(&second)),
+            _ => None,
+        }
+    }
+
+    /// Drives a word on both. Gives the two refusals.
+    pub fn drive(&mut self, word: u32) -> [u32; 2] {
+        let mut refusals = [18; 2];
+        for (number, car) in self.cars().into_iter().enumerate() {
+            match car.ok_or(18).and_then(|car| car.drive(word)) {
+                Ok(after) => {
+                    self.0[12 * number..][..12].copy_from_slice(&after.write());
+                    refusals[number] = 0;
+                }
+                Err(refusal) => refusals[number] = refusal,
+            }
+        }
+        refusals
     }
 }

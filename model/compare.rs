@@ -3,7 +3,7 @@
 
 use crate::calls::converted;
 use crate::library::{self, GUARD};
-use crate::paper::{Car, Lesson, Passing, Sighting};
+use crate::paper::{Car, Lesson, Passing, Sighting, CLOCK_END};
 use crate::random::{self, Driver, Random, FIELDS};
 use crate::tuned;
 use std::fmt::Write;
@@ -233,7 +233,31 @@ fn alike_case(bench: &mut Bench, random: &mut Random) -> Result<(), Difference> 
     }
     let other_car = random::good_car(random);
     let other = Buffer::holding(random, &other_car.write());
-    bench.alike(Some(car), &record, Some(other_car), &other)
+    bench.alike(Some(car), &record, Some(other_car), &other)?;
+    stay_alike(bench, random, car)
+}
+
+/// A car and one that differs in its times alone, driven by one list of words: alike before it and after each word that
+/// both accept or both refuse, with one number; a word is refused to one alone with 16 and at 86,400 only.
+fn stay_alike(bench: &mut Bench, random: &mut Random, car: Car) -> Result<(), Difference> {
+    let mut driver = Driver::new(random);
+    let mut cars = [car, random::moved_in_time(random, &car)];
+    let mut records = cars.map(|car| Buffer::holding(random, &car.write()));
+    for _ in 0..200 {
+        bench.alike(Some(cars[0]), &records[0], Some(cars[1]), &records[1])?;
+        let word = driver.word(random, &cars[0]);
+        let refusals = cars.map(|car| car.drive(word).err());
+        for (car, record) in cars.iter_mut().zip(&mut records) {
+            *car = bench.drive(Some(*car), record, word)?.unwrap_or(*car);
+        }
+        match refusals {
+            [a, b] if a == b && cars[0].alike(&cars[1]) => {}
+            [Some(16), None] if cars[0].now == CLOCK_END => return bench.parted(),
+            [None, Some(16)] if cars[1].now == CLOCK_END => return bench.parted(),
+            _ => return bench.apart(word, refusals, cars),
+        }
+    }
+    Ok(())
 }
 
 /// The tuned lesson against the plain one.
@@ -731,6 +755,22 @@ impl Bench<'_> {
         )
     }
 
+    /// Alike cars of which one has reached the clock's end.
+    fn parted(&mut self) -> Result<(), Difference> {
+        self.tally.parted += 1;
+        Ok(())
+    }
+
+    /// Alike cars that a word took apart: what document 02, §9, says cannot be.
+    fn apart(&mut self, word: u32, refusals: [Option<u32>; 2], cars: [Car; 2]) -> Result<(), Difference> {
+        self.judge(
+            false,
+            || format!("word {word:08X} on two alike cars"),
+            || String::from("alike afterwards, or 16 to one alone at 86,400"),
+            || format!("{refusals:?} {cars:?}"),
+        )
+    }
+
     fn tuned_lesson(&mut self, car: Car, words: &[u32], answers: &mut Buffer) -> Result<Car, Difference> {
         let expected = car.lesson(words, answers.expected_mut());
         let end = MARGIN + answers.length();
@@ -1007,6 +1047,8 @@ struct Tally {
     /// Records that the model refused and accepted.
     records: [u64; 2],
     alike: u64,
+    /// Pairs of alike cars that came to the clock's end one before the other.
+    parted: u64,
     tuned_words: u64,
     copied_words: u64,
     /// Words of the lessons that were asked for a mark.
@@ -1055,7 +1097,7 @@ impl Tally {
         let in_lessons: u64 = self.answers.iter().sum();
         println!("  {driven:>9} words driven singly, {in_lessons} in lessons, {} in tuned lessons", self.tuned_words);
         println!("  {:>9} records made by hand accepted, {} refused", self.records[1], self.records[0]);
-        println!("  {:>9} pairs of cars alike", self.alike);
+        println!("  {:>9} pairs of cars alike, {} parted at the clock's end", self.alike, self.parted);
         println!("  {:>9} words written in copies", self.copied_words);
         let [passed, at_edges] = self.passed;
         println!(

@@ -1,8 +1,8 @@
 //! What each test program has to print for its input, by the model.
 
-use crate::calls::{copied, Call, Fields, Outcome, UNUSED};
+use crate::calls::{copied, Call, Fields, Outcome, Pair, UNUSED};
 use crate::exercise::{bytes_of, words_of, Given};
-use crate::inputs::MARK;
+use crate::inputs::{any_pairs, MARK};
 use crate::paper::{Car, Event, Figures, Passing, Reading, Sighting};
 use std::io::Write;
 
@@ -395,6 +395,61 @@ fn marked(car: Option<Car>, words: &[u32], mark: u32) -> (u32, [u32; 2], Option<
     let (seconds, after) = car.seconds(words);
     let Passing { event, seconds } = Passing::of(&seconds, mark);
     (0, [event.unwrap_or(0), seconds].map(|number| number as u32), Some(after))
+}
+
+// ---------------------------------------------------------------- alikes
+
+/// The calls of the input of `alikes`.
+fn split_alikes(words: &[u32]) -> Result<Vec<&[u32]>, String> {
+    let length = |words: &[u32]| match words[0] {
+        1 => Some(1 + 24),
+        2 => Some(1 + 46),
+        3 => Some(2),
+        _ => None,
+    };
+    split(words, length).ok_or_else(|| String::from("alikes: an input that it does not read, or only in part"))
+}
+
+pub fn alikes(input: &[u8]) -> Result<Vec<u8>, String> {
+    let mut page = Page::default();
+    let mut pair = Pair([UNUSED; 24]);
+    let by_hand = any_pairs()?;
+    let mut by_hand = by_hand.iter();
+    for call in split_alikes(&words_of(input))? {
+        match call[0] {
+            1 => {
+                pair = Pair(call[1..].try_into().expect("24 words"));
+                pair_line(&mut page, &pair);
+            }
+            // The model has no car that no record gives: such pairs have answers worked out by hand.
+            2 => {
+                let [first, second, ..] = &cars_of(&call[1..])[..] else {
+                    return Err(String::from("alikes: no two cars"));
+                };
+                let &(_, alike) = by_hand
+                    .next()
+                    .filter(|(cars, _)| cars == &[*first, *second])
+                    .ok_or("alikes: a pair of cars with no answer worked out by hand")?;
+                page.numbers(&[u32::from(alike)]).end();
+            }
+            _ => {
+                let refusals = pair.drive(call[1]);
+                page.numbers(&refusals);
+                pair_line(&mut page, &pair);
+            }
+        }
+    }
+    match by_hand.next() {
+        None => Ok(page.0),
+        Some(_) => Err(String::from("alikes: a pair worked out by hand is missing")),
+    }
+}
+
+fn pair_line(page: &mut Page, pair: &Pair) {
+    match pair.alike() {
+        Some(alike) => page.numbers(&[0, u32::from(alike)]).end(),
+        None => page.numbers(&[18, 0]).end(),
+    }
 }
 
 // ---------------------------------------------------------------- sightings

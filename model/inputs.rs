@@ -1,7 +1,7 @@
 //! The test programs' inputs from a folder of outside vectors. What the folder does not have is kept from the input as
 //! it stands.
 
-use crate::calls::{run_all, Call, Copy, Fields, Mark, Outcome, Start, UNUSED};
+use crate::calls::{run_all, Call, Copy, Fields, Mark, Outcome, Pair, Start, NAMES, UNUSED};
 use crate::exercise::{bytes_of, words_of};
 use crate::expected::{split_calls, split_cruise_calls};
 use crate::outside::{listed_passing, Folder, Listed};
@@ -486,8 +486,8 @@ const LONG_MARKED: &str = "pages-whole";
 /// At which of its words each of some lessons first passes its mark, and how many words they have.
 const EDGES: [usize; 4] = [1023, 1024, 1025, 1026];
 const EDGE_WORDS: usize = 1028;
-/// The same of a longer one.
-const LONG_EDGE: usize = 1500;
+/// The same of a longer one, which passes it amid its second part; the first of these at which one does.
+const LONG_EDGES: Range<usize> = 1100..2000;
 const LONG_WORDS: usize = 2100;
 /// The exercise file that goes up and down between two speeds, and the events of two lessons of it, of two parts and of
 /// three.
@@ -555,8 +555,9 @@ pub fn marks(folder: &Folder) -> Result<Vec<u8>, String> {
 fn long_marks(folder: &Folder) -> Result<[Mark; 3], String> {
     let [shorter, longer] = CYCLE_EVENTS;
     let lowest = folder.listed(CYCLE)?[longer.clone()].iter().map(|event| event.speed).min().unwrap_or(0);
+    let amid = LONG_EDGES.into_iter().find_map(|at| passed_at(folder, at, LONG_WORDS).ok());
     Ok([
-        passed_at(folder, LONG_EDGE, LONG_WORDS)?,
+        amid.ok_or_else(|| format!("{LONG_MARKED}: no lesson first passes a mark amid its second part"))?,
         cut_lesson(folder, CYCLE, shorter, lowest)?,
         cut_lesson(folder, CYCLE, longer, lowest + 1)?,
     ])
@@ -644,6 +645,125 @@ fn chosen_mark(events: &[Listed], chosen: Chosen) -> u32 {
         Chosen::Top => speeds.max().unwrap_or(0),
         Chosen::Never => speeds.max().unwrap_or(0) + 1,
     }
+}
+
+// ---------------------------------------------------------------- alikes
+
+/// The words that are driven on each outside pair of alike cars: both ticks, of which 15 refuses one but for a test's
+/// second, between words of every kind.
+const DRIVEN: [u32; 40] = [
+    0xA000_0000, 0xA000_0001, 0x2000_0002, 0xA000_0000, 0xA000_0001, 0xA000_0000, 0xA000_0001, 0x2000_0001, 0xA000_0000,
+    0xA000_0001, 0x2000_0000, 0x3000_0001, 0xA000_0000, 0xA000_0001, 0x3000_0000, 0x8000_0514, 0x8000_0515, 0x9003_E814,
+    0x7000_0019, 0xA000_0000, 0xA000_0001, 0x4000_00E1, 0xA000_0000, 0xA000_0001, 0x4000_0000, 0x5000_005B, 0xA000_0000,
+    0xA000_0001, 0x5000_0000, 0x6000_0FA0, 0x3000_0002, 0xA000_0000, 0xA000_0001, 0x3000_0000, 0x2000_0003, 0x2000_0004,
+    0xA000_0000, 0xA000_0001, 0x1000_0001, 0x1000_0006,
+];
+
+/// On how many of them, for want of room for more.
+const DRIVEN_PAIRS: usize = 80;
+
+/// The outside pairs, and words on those whose cars are alike; pairs at the clock's end and two cars that differ in the
+/// lever time alone, with ticks; pairs of cars as they stand.
+pub fn alikes(folder: &Folder) -> Result<Vec<u8>, String> {
+    let Some(pairs) = folder.pairs()? else {
+        return stdin("alikes");
+    };
+    let mut words = Vec::new();
+    let mut driven_pairs = 0;
+    for pair in pairs {
+        let is_driven = pair.alike() == Some(true) && driven_pairs < DRIVEN_PAIRS;
+        driven_pairs += usize::from(is_driven);
+        words.extend(driven_pair(&pair, if is_driven { &DRIVEN } else { &[] }));
+    }
+    for pair in ticked_pairs()? {
+        words.extend(driven_pair(&pair, &[TICK; 4]));
+    }
+    for ([first, second], _) in any_pairs()? {
+        words.push(2);
+        words.extend(first.0.into_iter().chain(second.0));
+    }
+    words.push(0);
+    Ok(bytes_of(&words))
+}
+
+fn driven_pair(pair: &Pair, driven: &[u32]) -> Vec<u32> {
+    [1].into_iter().chain(pair.0).chain(driven.iter().flat_map(|&word| [3, word])).collect()
+}
+
+/// A car with some fields changed.
+fn changed(car: Fields, changes: &[(&str, u32)]) -> Result<Fields, String> {
+    let change = |car: Fields, &(name, value): &(&str, u32)| car.with(name, value);
+    changes.iter().try_fold(car, change).ok_or_else(|| String::from("no such field"))
+}
+
+/// The table's car with its lever held at up5 since now, which is 0.
+const HELD: [(&str, u32); 2] = [("L", 1), ("B", 500)];
+
+/// Alike cars with one, two or no seconds left, and two cars of which one had held the lever a second longer.
+fn ticked_pairs() -> Result<Vec<Pair>, String> {
+    let held = changed(TABLE_CAR, &HELD)?;
+    let late = |now: u32| changed(held, &[("now", now), ("T", now), ("Q", now)]);
+    let pairs = [
+        [late(86_399)?, late(86_400)?],
+        [late(86_400)?, late(86_398)?],
+        [late(86_400)?, late(86_400)?],
+        [changed(held, &[("now", 1), ("T", 1)])?, changed(held, &[("now", 1)])?],
+    ];
+    let pair = |[first, second]: [Fields; 2]| Pair::of(first, second).ok_or("alikes: a car that no record shows");
+    Ok(pairs.into_iter().map(pair).collect::<Result<_, _>>()?)
+}
+
+/// Now, T and Q of two cars with the lever held and the key on, and whether they are alike: worked out by hand.
+const TIMES: [([u32; 3], [u32; 3], bool); 8] = [
+    // T five seconds after now in both.
+    ([0, 5, 0], [10, 15, 10], true),
+    // Five seconds after now, and five before it.
+    ([0, 5, 0], [10, 5, 10], false),
+    ([10, 10, 5], [0, 0, 5], false),
+    // The greatest and the least of times, no second ago.
+    ([u32::MAX, u32::MAX, u32::MAX], [0, 0, 0], true),
+    // 4294967295 seconds before now, and one after it: sums of 32 bits are the same.
+    ([u32::MAX, 0, u32::MAX], [0, 1, 0], false),
+    ([u32::MAX, u32::MAX, 0], [0, 0, 1], false),
+    // Sums of 2^32, and none.
+    ([1 << 31, 1 << 31, 1 << 31], [1 << 31, 1 << 31, 1 << 31], true),
+    ([1 << 31, 0, 1 << 31], [0, 1 << 31, 0], false),
+];
+
+/// What of the car with its lever held has its times counted no more, and which of T and Q that is.
+const UNCOUNTED: [(&str, u32, &str); 6] =
+    [("L", 0, "T"), ("C", 0, "T"), ("key", 0, "Q"), ("key", 1, "Q"), ("key", 3, "Q"), ("key", u32::MAX, "Q")];
+
+/// A car's times.
+const TIME_NAMES: [&str; 3] = ["now", "T", "Q"];
+
+/// Pairs of cars as they stand, most of which no record gives, and whether they are alike: worked out by hand. One field
+/// changed, of a car whose times count and of one whose do not; then the times.
+pub fn any_pairs() -> Result<Vec<([Fields; 2], bool)>, String> {
+    let held = changed(TABLE_CAR, &HELD)?;
+    let still = changed(TABLE_CAR, &[("key", 0), ("C", 0)])?;
+    let mut pairs = vec![([held, held], true), ([still, still], true)];
+    for (name, value) in NAMES.into_iter().zip(held.0) {
+        // A flag is another one; any other value is one more.
+        let other = if ["signs", "H", "S", "C", "P"].contains(&name) { 1 - value } else { value + 1 };
+        pairs.push(([held, changed(held, &[(name, other)])?], false));
+    }
+    for name in NAMES {
+        let first = changed(still, &[(name, 0)])?;
+        pairs.push(([first, changed(still, &[(name, 1)])?], TIME_NAMES.contains(&name)));
+    }
+    let timed = |times: [u32; 3]| changed(held, &[("now", times[0]), ("T", times[1]), ("Q", times[2])]);
+    for (first, second, alike) in TIMES {
+        pairs.push(([timed(first)?, timed(second)?], alike));
+        pairs.push(([timed(second)?, timed(first)?], alike));
+    }
+    for (name, value, time) in UNCOUNTED {
+        let first = changed(held, &[(name, value)])?;
+        for other in ["T", "Q"] {
+            pairs.push(([first, changed(first, &[(other, 7)])?], other == time));
+        }
+    }
+    Ok(pairs)
 }
 
 // ---------------------------------------------------------------- sightings

@@ -1,6 +1,6 @@
 //! A folder of outside vectors: its inputs, and its answers held to the model's.
 
-use crate::calls::{run_all, Call, Copy, Fields, Mark, Outcome, Start};
+use crate::calls::{run_all, Call, Copy, Fields, Mark, Outcome, Pair, Start};
 use crate::exercise::{bytes_of, is_refused, words_of, Given};
 use crate::paper::{Car, Event, Passing, Sighting};
 use crate::parts::Parts;
@@ -66,6 +66,11 @@ impl Folder {
     /// The sightings of sighting.in.
     pub fn sightings(&self) -> Result<Option<Vec<Sighting>>, String> {
         self.lines("sighting.in", read_sighting)
+    }
+
+    /// The pairs of records of alike.in.
+    pub fn pairs(&self) -> Result<Option<Vec<Pair>>, String> {
+        self.lines("alike.in", read_pair)
     }
 
     /// A file's lines, each as it is read.
@@ -156,6 +161,10 @@ fn read_mark(line: &str) -> Option<Mark> {
     Some(Mark { mark, start, words: hex_words(words)? })
 }
 
+fn read_pair(line: &str) -> Option<Pair> {
+    hex_words(line)?.try_into().ok().map(Pair)
+}
+
 /// A vehicle's floats are their bits.
 fn read_sighting(line: &str) -> Option<Sighting> {
     match &line.split_whitespace().collect::<Vec<_>>()[..] {
@@ -186,7 +195,8 @@ impl Folder {
             + self.hold_records()?
             + self.hold_copies()?
             + self.hold_marks()?
-            + self.hold_sightings()?;
+            + self.hold_sightings()?
+            + self.hold_pairs()?;
         for name in self.names.iter().filter_map(|name| name.strip_suffix(".bin")) {
             lines += self.hold_listing(name)?;
         }
@@ -238,6 +248,14 @@ impl Folder {
         };
         let model: Vec<String> = sightings.iter().map(|&sighting| sighting_answer(sighting)).collect();
         hold_lines("sighting.txt", &self.answers("sighting.txt")?, &model)
+    }
+
+    fn hold_pairs(&self) -> Result<usize, String> {
+        let Some(pairs) = self.pairs()? else {
+            return Ok(0);
+        };
+        let model: Vec<String> = pairs.iter().map(pair_answer).collect();
+        hold_lines("alike.txt", &self.answers("alike.txt")?, &model)
     }
 
     /// Holds NAME.txt to the model's listing of NAME.bin, and its refusals 1 to 3, which come before all others, to
@@ -347,6 +365,14 @@ fn sighting_answer(sighting: Sighting) -> String {
         Ok(Some(reading)) => format!("word {:08X}", reading.word()),
         Ok(None) => String::from("no event"),
         Err(refusal) => format!("refused {refusal}"),
+    }
+}
+
+/// A pair's answer as a folder gives it.
+fn pair_answer(pair: &Pair) -> String {
+    match pair.alike() {
+        Some(alike) => u32::from(alike).to_string(),
+        None => String::from("refused 18"),
     }
 }
 

@@ -1046,14 +1046,18 @@ impl Car {
         }
     }
 
-    /// Two cars are alike when key, L, M, v, D, C and S agree.
+    /// Cars count as alike exactly when key, L, M, v, D, C and S and B, E, G, Z, H, b, g, R, W, Y, P, the settings and two
+    /// times agree: as seconds before each car's now, T only when the lever is out and cruise on, Q only with the key on.
     pub fn alike(&self, other: &Car) -> bool {
-        self.key == other.key
-            && self.up_down == other.up_down
-            && self.fore_back == other.fore_back
-            && self.speed == other.speed
-            && self.desired == other.desired
-            && self.cruise == other.cruise
-            && self.limiter == other.limiter
+        let shown = |car: &Car| (car.key, car.up_down, car.fore_back, car.speed, car.desired, car.cruise, car.limiter);
+        let kept = |car: &Car| (car.lever_base, car.hand_set, car.gap, car.limit, car.button, car.brake, car.gas);
+        let radar = |car: &Car| (car.range, car.ahead, car.ahead_before, car.ready);
+        let held = self.up_down.is_out() && self.cruise;
+        shown(self) == shown(other)
+            && kept(self) == kept(other)
+            && radar(self) == radar(other)
+            && (self.mode, self.signs) == (other.mode, other.signs)
+            && (!held || self.now - self.lever_time == other.now - other.lever_time)
+            && (self.key != Key::On || self.now - self.tested == other.now - other.tested)
     }
 }

@@ -470,6 +470,18 @@ pub fn good_car(random: &mut Random) -> Car {
     }
 }
 
+/// The car with another clock, often near its end, and the times that count as many seconds before it.
+pub fn moved_in_time(random: &mut Random, car: &Car) -> Car {
+    let held = car.cruise && car.up_down.is_out();
+    let times = [(held, car.lever_time), (car.key == Key::On, car.tested)];
+    let counted = times.into_iter().filter(|&(counts, _)| counts);
+    let least = counted.map(|(_, time)| car.now - time).max().unwrap_or(0);
+    let first = if random.once_in(3) { least.max(CLOCK_END - 50) } else { least };
+    let now = random.between(first, CLOCK_END);
+    let [lever_time, tested] = times.map(|(counts, time)| if counts { now - (car.now - time) } else { time });
+    Car { now, lever_time, tested, ..*car }
+}
+
 /// A good car with cruise on behind another, L and M neutral, for runs of ticks.
 pub fn following_car(random: &mut Random) -> Car {
     loop {

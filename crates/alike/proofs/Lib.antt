@@ -1,1 +1,5 @@
+pub mod Shift
+pub mod ShiftLaws
 pub mod AlikeLaws
+pub mod StayLaws
+pub mod BeforeLaws

@@ -6,8 +6,8 @@
 #include <stdio.h>
 #include <string.h>
 
-#if CRUISE_VERSION < 0x000700 || CRUISE_VERSION >= 0x010000
-#error "calls.c is for version 0.7 and those that keep to it"
+#if CRUISE_VERSION < 0x000800 || CRUISE_VERSION >= 0x010000
+#error "calls.c is for version 0.8 and those that keep to it"
 #endif
 
 /* What a buffer holds before a call, and the words round it always. */
@@ -1036,47 +1036,119 @@ static void alike_is(int line, const uint32_t *a, size_t a_length, const uint32_
     equal(line, "the number after it", got[2], KEPT);
 }
 
-/* Two cars that differ in one word of their records. */
-static void pair(const uint32_t *car, uint32_t word, uint32_t alike)
+/* The same both ways. */
+static void two(int line, const uint32_t *car, const uint32_t *other, uint32_t alike)
 {
     struct area a, b;
-    uint32_t other[WORDS];
-    copy(other, car);
-    other[word >> 24 & 15] = word;
     lay(&a, car, WORDS);
     lay(&b, other, WORDS);
-    alike_is(__LINE__, a.words + ROUND, WORDS, b.words + ROUND, WORDS, CRUISE_ACCEPTED, alike);
-    alike_is(__LINE__, b.words + ROUND, WORDS, a.words + ROUND, WORDS, CRUISE_ACCEPTED, alike);
+    alike_is(line, a.words + ROUND, WORDS, b.words + ROUND, WORDS, CRUISE_ACCEPTED, alike);
+    alike_is(line, b.words + ROUND, WORDS, a.words + ROUND, WORDS, CRUISE_ACCEPTED, alike);
     LEFT(a, car, WORDS);
     LEFT(b, other, WORDS);
 }
 
-/* Alike: key, L, M, v, D, C and S agree. */
+/* Two cars that differ in some words of their records. */
+static void pair(int line, const uint32_t *car, const uint32_t *words_changed, size_t count, uint32_t alike)
+{
+    uint32_t other[WORDS];
+    copy(other, car);
+    for (size_t i = 0; i < count; i++) {
+        other[words_changed[i] >> 24 & 15] = words_changed[i];
+    }
+    two(line, car, other, alike);
+}
+
+/* Cruise on at D 500, L at up5 since the second 10, now 10, Q 10. */
+static const uint32_t held[WORDS] = {0xB0003031, 0xB1000000, 0xB20001F4, 0xB3000000, 0xB40001F4, 0xB500000A,
+                                     0xB60001F4, 0xB7000000, 0xB8000000, 0xB9000014, 0xBA00000A, 0xBB00000A};
+
+/* Alike: all but the clock. T counts with L out and C = 1, Q with the key on, as seconds before now. */
 static void alikes(void)
 {
-    uint32_t limited[WORDS];
+    static const struct {
+        const uint32_t *car;
+        uint32_t words[3];
+        size_t count;
+        uint32_t alike;
+    } cases[] = {
+        {fresh, {0xB0000002}, 1, 0},  /* mode */
+        {fresh, {0xB0000005}, 1, 0},  /* signs */
+        {fresh, {0xB0000009}, 1, 0},  /* key */
+        {fresh, {0xB0000021}, 1, 0},  /* L */
+        {fresh, {0xB0000101}, 1, 0},  /* M */
+        {fresh, {0xB3000001}, 1, 0},  /* Z */
+        {fresh, {0xB9000019}, 1, 0},  /* G */
+        {fresh, {0xBA000001}, 1, 1},  /* now */
+        {fresh, {0xBA015180}, 1, 1},  /* now 86,400 */
+        {behind, {0xB0003412}, 1, 0}, /* H */
+        {behind, {0xB0003C12, 0xB3000200}, 2, 0}, /* H, S, Z */
+        {behind, {0xB0002012}, 1, 0}, /* C */
+        {behind, {0xB0001012, 0xB7012CFF}, 2, 0}, /* P, R */
+        {behind, {0xB1000100}, 1, 0}, /* g */
+        {behind, {0xB20001F5}, 1, 0}, /* v */
+        {behind, {0xB4000385}, 1, 0}, /* D */
+        {behind, {0xB4258384}, 1, 0}, /* E 1200 */
+        {behind, {0xB7012C14}, 1, 0}, /* R */
+        {behind, {0xB7012D13}, 1, 0}, /* W */
+        {behind, {0xB8000001}, 1, 0}, /* Y */
+        {behind, {0xBA000001}, 1, 0}, /* now: the test was a second ago */
+        {behind, {0xBA000001, 0xBB000001}, 2, 1}, /* now and Q */
+        {behind, {0xBA015180, 0xBB015180}, 2, 1},
+        {held, {0xB5000009}, 1, 0}, /* T: L out for a second longer */
+        {held, {0xBB000009}, 1, 0}, /* Q */
+        {held, {0xBA00000B}, 1, 0}, /* now */
+        {held, {0xBA00000B, 0xBB00000B}, 2, 0}, /* now and Q, the clock's T as it was */
+        {held, {0xBA00000B, 0xB500000B}, 2, 0}, /* now and T, the clock's Q as it was */
+        {held, {0xBA00000B, 0xB500000B, 0xBB00000B}, 3, 1},
+        {held, {0xBA00000B, 0xB500000A, 0xBB00000B}, 3, 0},
+        {held, {0xB40001FE, 0xB60001FE}, 2, 0}, /* D, B 510 */
+    };
     alike_is(__LINE__, fresh, WORDS, fresh, WORDS, CRUISE_ACCEPTED, 1);
     alike_is(__LINE__, fresh, WORDS, behind, WORDS, CRUISE_ACCEPTED, 0);
-    pair(fresh, 0xB0000002, 1);  /* mode */
-    pair(fresh, 0xB0000005, 1);  /* signs */
-    pair(fresh, 0xB0000009, 0);  /* key */
-    pair(fresh, 0xB0000021, 0);  /* L */
-    pair(fresh, 0xB0000101, 0);  /* M */
-    pair(fresh, 0xB9000019, 1);  /* G */
-    pair(fresh, 0xBA000001, 1);  /* now */
-    pair(behind, 0xB0003412, 1); /* H */
-    pair(behind, 0xB0002012, 0); /* C */
-    pair(behind, 0xB1000100, 1); /* g */
-    pair(behind, 0xB20001F5, 0); /* v */
-    pair(behind, 0xB3000001, 1); /* Z */
-    pair(behind, 0xB4000385, 0); /* D */
-    pair(behind, 0xB4258384, 1); /* E 1200 */
-    pair(behind, 0xB7012D13, 1); /* W */
-    pair(behind, 0xB8000001, 1); /* Y */
-    copy(limited, behind);
-    limited[0] = 0xB0003C12;
-    limited[3] = 0xB3000200;
-    pair(limited, 0xB0003412, 0); /* S */
+    for (size_t i = 0; i < sizeof cases / sizeof cases[0]; i++) {
+        pair(__LINE__, cases[i].car, cases[i].words, cases[i].count, cases[i].alike);
+    }
+}
+
+/* One word on two cars, with its refusal of each; the D that it leaves, and whether they are alike behind it. */
+static void both(int line, uint32_t *a, uint32_t *b, uint32_t word, const uint32_t expected[5])
+{
+    uint32_t speed, desired[2], visual, acoustic, distance;
+    int32_t acceleration;
+    equal(line, "the refusal of the first", cruise_drive(a, WORDS, word), expected[0]);
+    equal(line, "the refusal of the second", cruise_drive(b, WORDS, word), expected[1]);
+    cruise_figures(a, WORDS, &speed, &desired[0], &acceleration, &visual, &acoustic, &distance);
+    cruise_figures(b, WORDS, &speed, &desired[1], &acceleration, &visual, &acoustic, &distance);
+    equal(line, "D of the first", desired[0], expected[2]);
+    equal(line, "D of the second", desired[1], expected[3]);
+    two(line, a, b, expected[4]);
+}
+
+/* Alike cars stay alike, up to the tick that the later one does not take; of two cars with L out for 0 s and 1 s D differs a second later. */
+static void pupils(void)
+{
+    static const struct {
+        uint32_t word, expected[5];
+    } together[] = {{0xA0000001, {0, 0, 500, 500, 1}}, {0xA0000001, {0, 0, 510, 510, 1}},  {0xA0000000, {15, 15, 510, 510, 1}},
+                    {0x30000001, {8, 8, 510, 510, 1}}, {0x20000002, {0, 0, 600, 600, 1}},  {0xA0000001, {0, 0, 600, 600, 1}},
+                    {0xA0000001, {0, 0, 700, 700, 1}}, {0xA0000001, {0, 16, 700, 700, 0}}, {0x20000000, {0, 0, 700, 700, 0}}};
+    static const uint32_t apart[5] = {0, 0, 500, 510, 0};
+    uint32_t early[WORDS], late[WORDS], longer[WORDS];
+    copy(early, held);
+    copy(late, held);
+    late[5] = 0xB501517C; /* T, now, Q 86,396 */
+    late[10] = 0xBA01517C;
+    late[11] = 0xBB01517C;
+    two(__LINE__, early, late, 1);
+    for (size_t i = 0; i < sizeof together / sizeof together[0]; i++) {
+        both(__LINE__, early, late, together[i].word, together[i].expected);
+    }
+    copy(early, held);
+    copy(longer, held);
+    longer[5] = 0xB5000009;
+    two(__LINE__, early, longer, 0);
+    both(__LINE__, early, longer, 0xA0000001, apart);
 }
 
 /* A record that is refused: 18 from each function that is handed it, before anything else is looked at, and all buffers kept. */
@@ -1194,6 +1266,7 @@ int main(void)
     refusals();
     figures();
     alikes();
+    pupils();
     records();
     if (failures != 0) {
         printf("calls.c: %lu of %lu checks fail\n", failures, checks);

@@ -25,7 +25,7 @@ extern "C" {
 
 /* The version of this header and of the archive beside it: it rises with each change of what a function gives. */
 #define CRUISE_VERSION_MAJOR 0
-#define CRUISE_VERSION_MINOR 7
+#define CRUISE_VERSION_MINOR 8
 #define CRUISE_VERSION (CRUISE_VERSION_MAJOR << 16 | CRUISE_VERSION_MINOR << 8)
 
 /* How many words a record has. */
@@ -212,7 +212,10 @@ uint32_t cruise_test(const uint32_t *record, size_t length);
 uint32_t cruise_figures(const uint32_t *record, size_t length, uint32_t *speed, uint32_t *desired, int32_t *acceleration,
                         uint32_t *visual, uint32_t *acoustic, uint32_t *distance);
 
-/* Whether two cars are alike (1, else 0): key, L, M, v, D, C and S agree.
+/* Whether two cars are alike (1, else 0): all of the one is as in the other, but that the clocks may differ. Two times are compared as the
+   seconds since then: that of the word that put L out, only with L out and C = 1; that of the last radar test, only with the key on.
+   Cars that are alike and are driven by the same words stay alike and give the same answers, up to a tick that only one of them takes,
+   since the other's clock stands at its end (16).
    18 one of the two is a record not of 12 words or not accepted: 0. */
 uint32_t cruise_alike(const uint32_t *a, size_t a_length, const uint32_t *b, size_t b_length, uint32_t *alike);
 
