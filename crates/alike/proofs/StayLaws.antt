@@ -1,9 +1,9 @@
 -- Alike cars, both good, stay alike: document 02, §9. One word, then words one after the other.
 -- Assumes nothing.
-use Rattle.std.specs.Prelude.{Bool, true, false, ◌≡◌, refl, List, [], ◌∷◌, ℕ, ◌≤◌, ◌<◌, eqb}
+use Rattle.std.specs.Prelude.{Bool, true, false, ◌≡◌, refl, List, [], ◌∷◌, ℕ, ◌≤◌, ◌<◌, ◌++◌, eqb, ltb, length, drop}
 use Rattle.std.proofs.Common.{sym, ◌∙◌, ap, subst, arith, eq-eqb, ne_eqb}
 use Rattle.kit.specs.Bounds.{lesson_length}
-use Rattle.kit.specs.Pick.{pick, pick_true, and_r}
+use Rattle.kit.specs.Pick.{pick, pick_true, and_r, either}
 use Rattle.event.specs.Words.{read_of}
 use Rattle.car.specs.declared.Car.{Car}
 use Rattle.car.specs.Acceleration.{target_of, acceleration_of}
@@ -11,12 +11,13 @@ use Rattle.car.specs.Distance.{secure_distance, ahead, within, close, visual, ac
 use Rattle.car.specs.Drive.{reads, is_tick, step_of, drive_of, accepted, accepted_tick}
 use Rattle.car.specs.Good.{good_of}
 use Rattle.car.proofs.GoodLaws.{good}
-use Rattle.car.specs.Lesson.{answering, answer_of, accepts, driven, each_of, answers_of}
+use Rattle.car.specs.Lesson.{answering, answer_of, accepts, driven, each_of, answers_of, accepted_of, taught_of, untaught, lesson_of, each_after, answers_after}
 use Rattle.car.specs.Standing.{Good}
 use Rattle.car.proofs.StepLaws.{step_refusal, step_good, drive_step}
+use Rattle.car.proofs.LessonLaws.{counts_all}
 use Rattle.history.proofs.HistoryLaws.{now_step}
 use Rattle.alike.specs.Alike.{alike_of}
-use Rattle.alike.specs.StayAlike.{Refused, AtEnd, Together, pattern, tick_words, Room, TogetherAll, Apart, in_speed, in_desired}
+use Rattle.alike.specs.StayAlike.{Refused, AtEnd, Together, pattern, tick_words, Room, TogetherAll, SameLesson, Apart, in_speed, in_desired}
 use Rattle.alike.proofs.Shift.{timed, shift}
 use Rattle.alike.proofs.ShiftLaws.{Refusals, same, first, second, word_refusals, step_shift}
 use Rattle.alike.proofs.AlikeLaws.{Alike, alike, alike_test, back, shift_alike, Shifted, later, earlier, shifted}
@@ -134,6 +135,14 @@ answers_alike a b (w ∷ ws) g h e q =
     let o = onward a b w ws g h e q in
     rw (o.answer, answers_alike (step_of a w).car (step_of b w).car ws (step_good a w g) (step_good b w h) o.alike o.rest)
 
+accepted_same : (a b : Car) (ws : List ℕ) → pattern a ws ≡ pattern b ws → accepted_of a ws ≡ accepted_of b ws
+unfolding each_of accepted_of
+accepted_same a b [] q = refl
+accepted_same a b (w ∷ ws) q =
+    let p : accepts (step_of a w) ≡ accepts (step_of b w) = cc in
+    let r : pattern (step_of a w).car ws ≡ pattern (step_of b w).car ws = cc in
+    omega (arith, p, accepted_same (step_of a w).car (step_of b w).car ws r)
+
 -- ---- with room on both clocks no word is refused to one alone
 before_end : {tick : Bool} {m n s t : ℕ} → Refusals tick m n s t → (tick ≡ true → s < lesson_length) → (tick ≡ true → t < lesson_length) → m ≡ n
 before_end (same e) h k = e
@@ -174,6 +183,22 @@ module _ (a b : Car) (ws : List ℕ) (g : good_of a ≡ true) (h : good_of b ≡
         answers = answers_alike a b ws g h i;
         same_pattern = same_pattern a b ws g h i;
       }
+
+  -- a lesson, as it is called, of both
+  pub same_lesson : (buffer : List ℕ) → pattern a ws ≡ pattern b ws
+      → SameLesson (lesson_of a ws buffer) (lesson_of b ws buffer) (answers_after a ws buffer) (answers_after b ws buffer)
+  unfolding lesson_of each_after pick taught_of untaught
+  same_lesson buffer q =
+      let n = accepted_same a b ws q in
+      either (ltb (length buffer) (length ws))
+      (λ s. rw (g, h, s) (record { refusal = refl; accepted = refl; refused = refl; answers = refl; alike = e }))
+      (λ s. rw (g, h, s) (record {
+        refusal = refl;
+        accepted = n;
+        refused = omega (arith, n, counts_all a ws, counts_all b ws);
+        answers = ap (λ (x : List ℕ). x ++ drop (length ws) buffer) (together_all.answers q);
+        alike = together_all.alike q;
+      }))
 
   -- what document 02, §9, tells cannot happen: different v or D after one list of words
   pub never_apart : Room a ws → Room b ws → Apart (driven a ws) (driven b ws) → ⊥

@@ -6,7 +6,7 @@ use Rattle.kit.specs.Pick.{pick}
 use Rattle.event.specs.Words.{read_of}
 use Rattle.car.specs.declared.Car.{Car}
 use Rattle.car.specs.Drive.{reads, is_tick, drive_of}
-use Rattle.car.specs.Lesson.{accepts, driven, each_of, answers_of}
+use Rattle.car.specs.Lesson.{Taught, accepts, driven, each_of, answers_of}
 use Rattle.alike.specs.Alike.{alike_of}
 
 -- ---- one word, driven on both cars
@@ -48,6 +48,14 @@ pub record TogetherAll (a b : Car) (ws : List ℕ) : Type 0 where
   pub answers : pattern a ws ≡ pattern b ws → answers_of a ws ≡ answers_of b ws
   -- the same words are accepted while both clocks have room
   pub same_pattern : Room a ws → Room b ws → pattern a ws ≡ pattern b ws
+
+-- what two lessons gave and left in their answer buffers: all the same, and the cars are alike behind them
+pub record SameLesson (t u : Taught) (ts us : List ℕ) : Type 0 where
+  pub refusal : t.refusal ≡ u.refusal
+  pub accepted : t.accepted ≡ u.accepted
+  pub refused : t.refused ≡ u.refused
+  pub answers : ts ≡ us
+  pub alike : alike_of t.car u.car ≡ true
 
 -- in the pupils' terms: two cars marked as alike are not apart after one lesson
 pub data Apart (c d : Car) : Type 0 where

@@ -1,1 +1,2 @@
 pub mod CallersLaws
+pub mod AlikeRecordsLaws
