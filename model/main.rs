@@ -13,6 +13,7 @@ mod parts;
 mod program;
 mod random;
 mod session;
+mod settling;
 mod sightings;
 mod speed;
 mod tests;
@@ -22,11 +23,12 @@ use std::process::ExitCode;
 use std::time::Instant;
 
 const USAGE: &str = "usage:
-[tests [DIR] | compare [SEED] | program [SEED] | sightings | replay KIND SEED | speed | once WORKLOAD WAY]
-compare tries the library, program the programs `lesson`, `clean` and `mark`; with no argument tests, compare, program
-are run
+[tests [DIR] | compare [SEED] | program [SEED] | settling | sightings | replay KIND SEED | speed | once WORKLOAD WAY]
+compare tries the library, program the programs `lesson`, `clean` and `mark`; with no argument tests, compare, settling,
+program are run
 tests holds the test programs' expected outputs to the model; with DIR, a folder of outside vectors, it holds that folder's
 answers to the model and then writes the programs' inputs and expected outputs
+settling leaves cars of every v and every D to cruise, by the library and by the model
 sightings tries the library's conversion of every float, as metres and as km/h
 KIND is one of fresh, walk, lesson, damaged, cars, alike, tuned, copy, mark, sighting, see of the library, short, failing,
 pages, file, pipe, live, clean, edges of the programs; a SEED is decimal or 0x hexadecimal
@@ -38,13 +40,14 @@ fn main() -> ExitCode {
     let arguments: Vec<String> = std::env::args().skip(1).collect();
     let arguments: Vec<&str> = arguments.iter().map(String::as_str).collect();
     let agrees = match arguments[..] {
-        [] => Some(tests::run() && compare::run(1) && program::run(1)),
+        [] => Some(tests::run() && compare::run(1) && settling::run() && program::run(1)),
         ["tests"] => Some(tests::run()),
         ["tests", folder] => Some(tests::renew(folder)),
         ["compare"] => Some(compare::run(1)),
         ["compare", seed] => number(seed).map(compare::run),
         ["program"] => Some(program::run(1)),
         ["program", seed] => number(seed).map(program::run),
+        ["settling"] => Some(settling::run()),
         ["sightings"] => Some(sightings::run()),
         ["replay", kind, seed] => number(seed).and_then(|seed| replay(kind, seed)),
         ["speed"] => {

@@ -1,6 +1,6 @@
 // Lists the exercise files in data/, each cut into pieces of a size of its own: the expected output is their listings in the same order. All
-// are outside ones but roundabout.bin and kickdown.bin, whose listings, of the same names, were worked out by hand. The longest, clock-end.bin, is the
-// input of `lesson`.
+// are outside ones but roundabout.bin, kickdown.bin and settling.bin, whose listings, of the same names, were worked out by hand. The longest,
+// clock-end.bin, is the input of `lesson`.
 #![tactic(auto)]
 
 ghost use Rattle.std.specs.Prelude.{◌≤◌, length};
@@ -81,10 +81,12 @@ fn pages(rt: &HostRuntime) -> Result<(), Told> {
     list(rt, b"vectors: pages-cut.bin", 4096)
 }
 
-// Back to the old speed after a roundabout: D kept, taken by forward, and cleared. Then a car too close kicks down and lifts again.
+// Back to the old speed after a roundabout: D kept, taken by forward, and cleared. A car too close kicks down and lifts again. Cruise settles: from far
+// above, from far below and from one above, where v passes D and comes back.
 fn by_hand(rt: &HostRuntime) -> Result<(), Told> {
     list(rt, b"vectors: roundabout.bin", 4)?;
-    list(rt, b"vectors: kickdown.bin", 4)
+    list(rt, b"vectors: kickdown.bin", 4)?;
+    list(rt, b"vectors: settling.bin", 4)
 }
 
 fn all(rt: &HostRuntime) -> Result<(), Told> {

@@ -1,0 +1,5 @@
+pub mod Speeds
+pub mod TickLaws
+pub mod SettlingLaws
+pub mod RoomLaws
+pub mod ExampleLaws
