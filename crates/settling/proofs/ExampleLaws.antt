@@ -7,7 +7,7 @@ use Rattle.car.specs.declared.Car.{Car}
 use Rattle.car.specs.Car.{ceiling_of}
 use Rattle.car.specs.Good.{positions_of, numbers_of, ranges_of, times_of, rule_a, rule_b, rule_c, rule_d, rule_e, rule_f, obeys_of, good_of}
 use Rattle.settling.specs.Settling.{Unhindered, LeftAlone, AcceptedTicks, after, AtDesired}
-use Rattle.settling.proofs.Speeds.{slowest_57}
+use Rattle.settling.proofs.CruiseSpeedLaws.{slowest_57}
 use Rattle.settling.proofs.SettlingLaws.{course, stays}
 
 -- from v 4 to D 1998 none of the first 57 ticks ends with v = D: the 57th ends with v 1997

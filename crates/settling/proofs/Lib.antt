@@ -1,4 +1,4 @@
-pub mod Speeds
+pub mod CruiseSpeedLaws
 pub mod TickLaws
 pub mod SettlingLaws
 pub mod RoomLaws

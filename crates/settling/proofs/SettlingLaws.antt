@@ -10,7 +10,8 @@ use Rattle.car.specs.Good.{good_of}
 use Rattle.car.proofs.GoodLaws.{good, ceiling_le}
 use Rattle.car.specs.Lesson.{driven}
 use Rattle.settling.specs.Settling.{LeftAlone, AcceptedTicks, after, AtDesired, Settles, Promise}
-use Rattle.settling.proofs.Speeds.{speed_in, enough_for, enough_for_le, settled_in, stays_in}
+use Rattle.settling.specs.CruiseSpeed.{speed_in, enough_for}
+use Rattle.settling.proofs.CruiseSpeedLaws.{enough_for_le, settled_in, stays_in}
 use Rattle.settling.proofs.TickLaws.{Ticked, one_tick}
 
 -- n accepted ticks, one after the other

@@ -18,7 +18,7 @@ use Rattle.car.specs.Rules.{range_after, test_due, radar_tested, radar_after, ho
 use Rattle.car.proofs.StepLaws.{step_good}
 use Rattle.history.proofs.HistoryLaws.{Word, took, left, word_view}
 use Rattle.settling.specs.Settling.{Unhindered, LeftAlone}
-use Rattle.settling.proofs.Speeds.{next_speed, speed_in}
+use Rattle.settling.specs.CruiseSpeed.{next_speed, speed_in}
 
 -- ---- the tick's parts
 not_ahead : (c : Car) → Unhindered c → ahead c ≡ false

@@ -1,4 +1,4 @@
--- The speed of a car that cruise alone moves, over plain numbers: what a tick makes of v, and how many ticks are enough until v = D.
+-- What a tick makes of v, over plain numbers, and how many ticks are enough until v = D.
 -- Assumes nothing.
 use Rattle.std.specs.Prelude.{◌≡◌, refl, ℕ, zero, suc, ◌+◌, ◌-◌, ◌*◌, ◌/◌, ◌≤◌, ◌<◌, min, max, leb, ltb}
 use Rattle.std.proofs.Common.{◌∙◌, arith, lt-ltb, le-ltb, le-leb, ltb-true, ltb-false, leb-true, leb-false}
@@ -9,14 +9,7 @@ use Rattle.kit.specs.Pick.{pick, either}
 use Rattle.motion.specs.Acceleration.{speeding, slowing, eased, towards}
 use Rattle.motion.proofs.SpeedLaws.{moved_le, at_most_le}
 use Rattle.motion.specs.Speed.{change, moved, at_most}
-
--- ---- v after a tick, by the tick's own rule, and after n of them
-unfoldable pub next_speed : ℕ → ℕ → ℕ
-next_speed v d = at_most (leb v d) d (moved v (change (towards v d)))
-
-unfoldable pub speed_in : ℕ → ℕ → ℕ → ℕ
-speed_in zero v d = v
-speed_in (suc n) v d = speed_in n (next_speed v d) d
+use Rattle.settling.specs.CruiseSpeed.{next_speed, speed_in, enough_for}
 
 -- ---- a difference n of v and D, of which a tick takes at most 36 × t: t is 1 from below, 3 from above
 abbrev taken : ℕ → ℕ → ℕ
@@ -156,10 +149,7 @@ unfolding speed_in
 closes zero v d h k = omega arith
 closes (suc n) v d h k = omega (arith, closes n (next_speed v d) d (next_le v d) k, rank_falls v d h k)
 
--- so many are enough for every v, and every D up to a ceiling: 58 up to 2000
-unfoldable pub enough_for : ℕ → ℕ
-enough_for top = max 50 (top / 36 + 3)
-
+-- ---- so many are enough for every v, and every D up to a ceiling: 58 up to 2000
 pub enough_for_le : (top : ℕ) → top ≤ desired_ceiling → enough_for top ≤ 58
 unfolding enough_for
 enough_for_le top h = omega arith
