@@ -9,14 +9,14 @@ pub const UNUSED: u32 = 0xDEAD_BEEF;
 // ---------------------------------------------------------------- Fields
 
 /// The fields' names in document 01's order.
-pub const NAMES: [&str; 23] = [
-    "mode", "signs", "key", "L", "M", "b", "g", "H", "S", "C", "P", "v", "Z", "D", "E", "T", "B", "R", "W", "Y", "G",
-    "now", "Q",
+pub const NAMES: [&str; 24] = [
+    "mode", "signs", "towing", "key", "L", "M", "b", "g", "H", "S", "C", "P", "v", "Z", "D", "E", "T", "B", "R", "W",
+    "Y", "G", "now", "Q",
 ];
 
 /// A car as its fields in document 01's order.
 #[derive(Clone, Copy, PartialEq, Eq, Debug)]
-pub struct Fields(pub [u32; 23]);
+pub struct Fields(pub [u32; 24]);
 
 /// The field's place in a record.
 fn place(name: &str) -> &'static Field {
@@ -68,13 +68,27 @@ impl Fields {
     }
 }
 
+// ---------------------------------------------------------------- Settings
+
+/// Mode, signs and towing, each any number.
+#[derive(Clone, Copy)]
+pub struct Settings(pub [u32; 3]);
+
+impl Settings {
+    pub fn of(car: &Car) -> Settings {
+        Settings([car.mode as u32, u32::from(car.signs), u32::from(car.towing)])
+    }
+
+    pub fn car(&self) -> Result<Car, u32> {
+        let [mode, signs, towing] = self.0;
+        Car::fresh(mode, signs, towing)
+    }
+}
+
 // ---------------------------------------------------------------- Calls
 
 pub enum Call {
-    Fresh {
-        mode: u32,
-        signs: u32,
-    },
+    Fresh(Settings),
     /// Sets all fields, without any check.
     Set(Fields),
     /// Changes some fields, without any check.
@@ -120,7 +134,7 @@ impl Call {
     /// The call on the car at hand. None: there is no car to call it on.
     pub fn run(&self, car: Option<Fields>) -> Option<Outcome> {
         match self {
-            Call::Fresh { mode, signs } => Some(made(Car::fresh(*mode, *signs))),
+            Call::Fresh(settings) => Some(made(settings.car())),
             Call::Set(fields) => Some(Outcome { car: Some(*fields), ..Outcome::default() }),
             Call::Read(words) => Some(made(Car::read(words).ok_or(18))),
             Call::Change(changes) => {
@@ -205,15 +219,14 @@ pub fn run_all(calls: &[Call]) -> Vec<Option<Outcome>> {
 
 /// A clean copy of a lesson from settings.
 pub struct Copy {
-    pub mode: u32,
-    pub signs: u32,
+    pub settings: Settings,
     pub room: usize,
     pub words: Vec<u32>,
 }
 
 impl Copy {
     pub fn run(&self) -> Outcome {
-        copied(Car::fresh(self.mode, self.signs), self.room, &self.words)
+        copied(self.settings.car(), self.room, &self.words)
     }
 }
 
@@ -237,7 +250,7 @@ pub struct Mark {
 
 /// What the lesson starts from.
 pub enum Start {
-    Fresh { mode: u32, signs: u32 },
+    Fresh(Settings),
     Record(Vec<u32>),
 }
 
@@ -245,7 +258,7 @@ impl Start {
     /// Its car. 17, 18: there is none.
     pub fn car(&self) -> Result<Car, u32> {
         match self {
-            Start::Fresh { mode, signs } => Car::fresh(*mode, *signs),
+            Start::Fresh(settings) => settings.car(),
             Start::Record(words) => Car::read(words).ok_or(18),
         }
     }
@@ -253,7 +266,7 @@ impl Start {
     /// The record that is lent, accepted or not; none where there is no fresh car.
     pub fn record(&self) -> Option<Vec<u32>> {
         match self {
-            Start::Fresh { .. } => self.car().ok().map(|car| car.write().to_vec()),
+            Start::Fresh(_) => self.car().ok().map(|car| car.write().to_vec()),
             Start::Record(words) => Some(words.clone()),
         }
     }

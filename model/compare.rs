@@ -124,8 +124,8 @@ fn run_case(kind: Kind, seed: u64, tally: &mut Tally, shown: bool) -> Result<(),
 
 /// Fresh cars of all small settings words and random ones, into buffers of any length.
 fn fresh_case(bench: &mut Bench, random: &mut Random) -> Result<(), Difference> {
-    for small in 0..48 {
-        let settings = if small < 16 { 0xD000_0000 | small } else { random::settings_word(random) };
+    for small in 0..64 {
+        let settings = if small < 32 { 0xD000_0000 | small } else { random::settings_word(random) };
         let length = random.pick(&[0, 0, 1, 5, 11, 12, 12, 13, 14, 40]);
         let mut record = Buffer::random(random, length);
         let car = bench.fresh(settings, &mut record)?;

@@ -1,6 +1,6 @@
 //! What each test program has to print for its input, by the model.
 
-use crate::calls::{copied, Call, Fields, Outcome, Pair, UNUSED};
+use crate::calls::{copied, Call, Fields, Outcome, Pair, Settings, UNUSED};
 use crate::exercise::{bytes_of, words_of, Given};
 use crate::inputs::{any_pairs, MARK};
 use crate::paper::{Car, Event, Figures, Passing, Reading, Sighting};
@@ -38,13 +38,13 @@ pub fn event_words(input: &[u8]) -> Result<Vec<u8>, String> {
     Ok(page.0)
 }
 
-/// The cars of `car_figures`: 23 words each, a flag set exactly when its word is 1.
+/// The cars of `car_figures`: 24 words each, a flag set exactly when its word is 1.
 pub fn cars_of(words: &[u32]) -> Vec<Fields> {
-    words.chunks_exact(23).map(|fields| car_of(fields.try_into().expect("23 words"))).collect()
+    words.chunks_exact(24).map(|fields| car_of(fields.try_into().expect("24 words"))).collect()
 }
 
-fn car_of(mut fields: [u32; 23]) -> Fields {
-    for flag in [1, 7, 8, 9, 10] {
+fn car_of(mut fields: [u32; 24]) -> Fields {
+    for flag in [1, 2, 8, 9, 10, 11] {
         fields[flag] = u32::from(fields[flag] == 1);
     }
     Fields(fields)
@@ -52,8 +52,8 @@ fn car_of(mut fields: [u32; 23]) -> Fields {
 
 pub fn car_figures(input: &[u8]) -> Result<Vec<u8>, String> {
     let mut page = Page::default();
-    for settings in 0..12 {
-        page.tight(&[Car::fresh(settings / 3, settings % 3).err().unwrap_or(0)]);
+    for settings in 0..36 {
+        page.tight(&[Car::fresh(settings / 9, settings / 3 % 3, settings % 3).err().unwrap_or(0)]);
     }
     for fields in cars_of(&words_of(input)) {
         let (refusal, figures) = figures_of(fields.car());
@@ -92,13 +92,13 @@ pub fn record_words(input: &[u8]) -> Result<Vec<u8>, String> {
 pub fn cab_words(input: &[u8]) -> Result<Vec<u8>, String> {
     let mut page = Page::default();
     let words = words_of(input);
-    let [count, mode, signs, words @ ..] = &words[..] else {
+    let [count, mode, signs, towing, words @ ..] = &words[..] else {
         return Err(String::from("cab_words: no settings"));
     };
     if words.len() != *count as usize {
         return Err(format!("cab_words: {} words for {count}", words.len()));
     }
-    let mut car = match Car::fresh(*mode, *signs) {
+    let mut car = match Car::fresh(*mode, *signs, *towing) {
         Ok(car) => car,
         Err(refusal) => return Ok(format!("{refusal}\n").into_bytes()),
     };
@@ -145,8 +145,8 @@ fn lesson_length(before: usize, sizes: &[u32], most: u32) -> Option<usize> {
 /// The calls of the input of `calls`.
 pub fn split_calls(words: &[u32]) -> Result<Vec<&[u32]>, String> {
     let length = |words: &[u32]| match words[0] {
-        1 => Some(3),
-        2 => Some(24),
+        1 => Some(4),
+        2 => Some(25),
         3 => Some(2),
         4 => lesson_length(1, words.get(1..3)?, 32),
         5 => (*words.get(1)? <= 32).then_some(2),
@@ -158,8 +158,8 @@ pub fn split_calls(words: &[u32]) -> Result<Vec<&[u32]>, String> {
 
 fn call_of(words: &[u32]) -> Call {
     match words[0] {
-        1 => Call::Fresh { mode: words[1], signs: words[2] },
-        2 => Call::Set(car_of(words[1..].try_into().expect("23 words"))),
+        1 => Call::Fresh(Settings([words[1], words[2], words[3]])),
+        2 => Call::Set(car_of(words[1..].try_into().expect("24 words"))),
         3 => Call::Drive(words[1]),
         4 => Call::Lesson { room: words[1] as usize, words: words[3..].to_vec() },
         5 => Call::Record { length: words[1] as usize },
@@ -169,7 +169,7 @@ fn call_of(words: &[u32]) -> Call {
 
 pub fn calls(input: &[u8]) -> Result<Vec<u8>, String> {
     let mut page = Page::default();
-    let mut car = Car::fresh(1, 0).ok().map(|car| Fields::of(&car));
+    let mut car = Car::fresh(1, 0, 0).ok().map(|car| Fields::of(&car));
     for call in split_calls(&words_of(input))?.into_iter().map(call_of) {
         let outcome = call.run(car).ok_or("calls: no car")?;
         call_lines(&mut page, &call, &outcome);
@@ -207,7 +207,7 @@ pub fn split_cruise_calls(words: &[u32]) -> Result<Vec<&[u32]>, String> {
         let lent = *words.get(1).filter(|&&lent| lent <= 13)?;
         match words[0] {
             1 => Some(2 + lent as usize),
-            2 => Some(4),
+            2 => Some(5),
             3 => Some(3),
             4 => lesson_length(2, words.get(2..4)?, 16),
             5 => Some(5),
@@ -237,7 +237,8 @@ fn lend(page: &mut Page, call: &[u32], words: &mut [u32]) {
     match call[0] {
         1 => words.copy_from_slice(&call[2..]),
         2 => {
-            let made = Car::fresh(call[2], call[3]).and_then(|car| if words.len() < 12 { Err(20) } else { Ok(car) });
+            let made =
+                Car::fresh(call[2], call[3], call[4]).and_then(|car| if words.len() < 12 { Err(20) } else { Ok(car) });
             page.numbers(&[store(words, made)]).end();
         }
         3 => {
@@ -292,8 +293,8 @@ const MOST_WORDS: u32 = 3072;
 /// The calls of the input of `copies`.
 fn split_copies(words: &[u32]) -> Result<Vec<&[u32]>, String> {
     let length = |words: &[u32]| match words[0] {
-        1 => lesson_length(3, words.get(3..5)?, MOST_WORDS),
-        2 => lesson_length(24, words.get(24..26)?, MOST_WORDS),
+        1 => lesson_length(4, words.get(4..6)?, MOST_WORDS),
+        2 => lesson_length(25, words.get(25..27)?, MOST_WORDS),
         3 => Some(3 + words.get(2)?.div_ceil(4) as usize),
         _ => None,
     };
@@ -305,14 +306,14 @@ pub fn copies(input: &[u8]) -> Result<Vec<u8>, String> {
     for call in split_copies(&words_of(input))? {
         match call[0] {
             1 => {
-                let outcome = copied(Car::fresh(call[1], call[2]), call[3] as usize, &call[5..]);
+                let outcome = copied(Car::fresh(call[1], call[2], call[3]), call[4] as usize, &call[6..]);
                 // The call's, and the same by the library's function.
                 copy_lines(&mut page, &outcome);
                 copy_lines(&mut page, &outcome);
             }
             2 => {
-                let fields = car_of(call[1..24].try_into().expect("23 words"));
-                let outcome = copied(fields.car().ok_or(18), call[24] as usize, &call[26..]);
+                let fields = car_of(call[1..25].try_into().expect("24 words"));
+                let outcome = copied(fields.car().ok_or(18), call[25] as usize, &call[27..]);
                 copy_lines(&mut page, &outcome);
                 page.numbers(&outcome.car.unwrap_or(fields).0).end();
             }
@@ -346,7 +347,7 @@ const MOST_BYTES: u32 = 4112;
 fn split_marks(words: &[u32]) -> Result<Vec<&[u32]>, String> {
     let length = |words: &[u32]| match words[0] {
         1 => marked_length(3 + *words.get(2).filter(|&&lent| lent <= MOST_LENT)? as usize, words),
-        2 => marked_length(25, words),
+        2 => marked_length(26, words),
         3 => match words.get(2..4)? {
             [1..=MOST_CUT, bytes @ 0..=MOST_BYTES] => Some(4 + bytes.div_ceil(4) as usize),
             _ => None,
@@ -372,8 +373,8 @@ pub fn marks(input: &[u8]) -> Result<Vec<u8>, String> {
                 page.numbers(&[refusal, event, seconds]).end();
             }
             2 => {
-                let fields = car_of(call[1..24].try_into().expect("23 words"));
-                let (refusal, [event, seconds], car) = marked(fields.car(), &call[26..], call[24]);
+                let fields = car_of(call[1..25].try_into().expect("24 words"));
+                let (refusal, [event, seconds], car) = marked(fields.car(), &call[27..], call[25]);
                 page.numbers(&[refusal, event, seconds]).end();
                 page.numbers(&car.map_or(fields, |car| Fields::of(&car)).0).end();
                 page.numbers(&[refusal, event]).end();
@@ -403,7 +404,7 @@ fn marked(car: Option<Car>, words: &[u32], mark: u32) -> (u32, [u32; 2], Option<
 fn split_alikes(words: &[u32]) -> Result<Vec<&[u32]>, String> {
     let length = |words: &[u32]| match words[0] {
         1 => Some(1 + 24),
-        2 => Some(1 + 46),
+        2 => Some(1 + 48),
         3 => Some(2),
         _ => None,
     };

@@ -1,7 +1,7 @@
 //! The test programs' inputs from a folder of outside vectors. What the folder does not have is kept from the input as
 //! it stands.
 
-use crate::calls::{run_all, Call, Copy, Fields, Mark, Outcome, Pair, Start, NAMES, UNUSED};
+use crate::calls::{run_all, Call, Copy, Fields, Mark, Outcome, Pair, Settings, Start, NAMES, UNUSED};
 use crate::exercise::{bytes_of, words_of};
 use crate::expected::{split_calls, split_cruise_calls};
 use crate::outside::{listed_passing, Folder, Listed};
@@ -47,8 +47,8 @@ pub fn cab_words(folder: &Folder) -> Result<Vec<u8>, String> {
     };
     let words = words_of(&file);
     let car = started(LONG_WALK, &words)?;
-    let settings = [words.len() as u32 - 1, car.mode as u32, u32::from(car.signs)];
-    Ok(bytes_of(&[&settings, &words[1..]].concat()))
+    let count = words.len() as u32 - 1;
+    Ok(bytes_of(&[&[count], &Settings::of(&car).0[..], &words[1..]].concat()))
 }
 
 /// The fresh car of an exercise file's first word.
@@ -74,7 +74,7 @@ pub fn record_words(folder: &Folder) -> Result<Vec<u8>, String> {
 // ---------------------------------------------------------------- car_figures
 
 /// Document 01's car of the visual warning, the first of the cars added by hand.
-const TABLE_CAR: Fields = Fields([2, 0, 2, 0, 0, 0, 0, 0, 0, 1, 1, 500, 0, 500, 0, 0, 0, 19, 300, 0, 20, 0, 0]);
+const TABLE_CAR: Fields = Fields([2, 0, 0, 2, 0, 0, 0, 0, 0, 0, 1, 1, 500, 0, 500, 0, 0, 0, 19, 300, 0, 20, 0, 0]);
 
 /// The cars of the records that have a record's form, the cars after the words that calls drive, and the cars added by
 /// hand, which are kept.
@@ -85,7 +85,7 @@ pub fn car_figures(folder: &Folder) -> Result<Vec<u8>, String> {
 
 fn figure_cars(folder: &Folder) -> Result<Vec<Fields>, String> {
     let words = words_of(&stdin("car_figures")?);
-    let present: Vec<Fields> = words.chunks_exact(23).map(|car| Fields(car.try_into().expect("23 words"))).collect();
+    let present: Vec<Fields> = words.chunks_exact(24).map(|car| Fields(car.try_into().expect("24 words"))).collect();
     let (Some(records), Some(calls)) = (folder.records()?, folder.calls("calls")?) else {
         return Ok(present);
     };
@@ -107,7 +107,7 @@ fn chosen_calls(calls: &[Call]) -> Vec<(&Call, Outcome)> {
     let mut chosen = Vec::new();
     for (number, (call, outcome)) in calls.iter().zip(run_all(calls)).enumerate() {
         is_chosen = match call {
-            Call::Fresh { .. } => true,
+            Call::Fresh(_) => true,
             Call::Read(_) => calls.get(number + 1).is_some_and(drives_up_down),
             _ => is_chosen,
         };
@@ -149,7 +149,7 @@ fn encoded(calls: &[Call]) -> Vec<u32> {
     for (call, outcome) in calls.iter().zip(run_all(calls)) {
         match (call, outcome) {
             (_, None) => {}
-            (Call::Fresh { mode, signs }, _) => words.extend([1, *mode, *signs]),
+            (Call::Fresh(settings), _) => words.extend([1].into_iter().chain(settings.0)),
             (Call::Drive(word), _) => words.extend([3, *word]),
             (Call::Lesson { room, words: events }, _) => {
                 words.extend([4, *room as u32, events.len() as u32]);
@@ -208,7 +208,7 @@ const SIGHTINGS: [[u32; 3]; 8] = [
 fn sighted_cars() -> Result<[Fields; 4], String> {
     let no_range = TABLE_CAR.with("R", 255).ok_or("no field R")?;
     let not_ready = no_range.with("P", 0).ok_or("no field P")?;
-    let key_out = Car::fresh(1, 0).map_err(|refusal| format!("no fresh car: {refusal}"))?;
+    let key_out = Car::fresh(1, 0, 0).map_err(|refusal| format!("no fresh car: {refusal}"))?;
     Ok([TABLE_CAR, not_ready, Fields::of(&key_out), no_range])
 }
 
@@ -273,11 +273,11 @@ fn lent_calls(calls: &[Call]) -> Result<Vec<u32>, String> {
     let mut not_seen = 0;
     for (call, outcome) in chosen_calls(calls) {
         match call {
-            Call::Fresh { mode, signs } => {
+            Call::Fresh(settings) => {
                 if outcome.refusal == 0 {
                     words.extend(set(&[UNUSED; 13]));
                 }
-                words.extend([2, 12, *mode, *signs]);
+                words.extend([2, 12].into_iter().chain(settings.0));
             }
             Call::Drive(word) => words.extend([3, 12, *word]),
             Call::Lesson { room, words: events } => {
@@ -415,7 +415,7 @@ pub fn copies(folder: &Folder) -> Result<Vec<u8>, String> {
     }
     let mut words = Vec::new();
     for copy in folder.copies()?.into_iter().flatten().chain(long_copies(folder)?) {
-        words.extend([1, copy.mode, copy.signs]);
+        words.extend([1].into_iter().chain(copy.settings.0));
         words.extend(copied(copy.room, &copy.words));
     }
     words.extend(car_copies(&folder.calls("calls")?.unwrap_or_default()));
@@ -439,7 +439,7 @@ fn long_copies(folder: &Folder) -> Result<[Copy; 2], String> {
     let words = words_of(&folder.bytes(LONG_COPY)?.unwrap_or_default());
     let car = started(LONG_COPY, &words)?;
     let accepted = car.accepted(&words[1..]).0.len();
-    let copy = |room| Copy { mode: car.mode as u32, signs: u32::from(car.signs), room, words: words[1..].to_vec() };
+    let copy = |room| Copy { settings: Settings::of(&car), room, words: words[1..].to_vec() };
     Ok([copy(accepted), copy(accepted.saturating_sub(1))])
 }
 
@@ -745,7 +745,7 @@ pub fn any_pairs() -> Result<Vec<([Fields; 2], bool)>, String> {
     let mut pairs = vec![([held, held], true), ([still, still], true)];
     for (name, value) in NAMES.into_iter().zip(held.0) {
         // A flag is another one; any other value is one more.
-        let other = if ["signs", "H", "S", "C", "P"].contains(&name) { 1 - value } else { value + 1 };
+        let other = if ["signs", "towing", "H", "S", "C", "P"].contains(&name) { 1 - value } else { value + 1 };
         pairs.push(([held, changed(held, &[(name, other)])?], false));
     }
     for name in NAMES {

@@ -1,6 +1,6 @@
 //! A folder of outside vectors: its inputs, and its answers held to the model's.
 
-use crate::calls::{run_all, Call, Copy, Fields, Mark, Outcome, Pair, Start};
+use crate::calls::{run_all, Call, Copy, Fields, Mark, Outcome, Pair, Settings, Start};
 use crate::exercise::{bytes_of, is_refused, words_of, Given};
 use crate::paper::{Car, Event, Passing, Sighting};
 use crate::parts::Parts;
@@ -124,7 +124,8 @@ fn read_call(line: &str) -> Option<Call> {
     let (kind, rest) = line.split_once(' ')?;
     let parts: Vec<&str> = rest.split_whitespace().collect();
     match (kind, &parts[..]) {
-        ("fresh", [mode, signs]) => Some(Call::Fresh { mode: mode.parse().ok()?, signs: signs.parse().ok()? }),
+        ("fresh", [mode, signs]) => read_settings([mode, signs, "0"]).map(Call::Fresh),
+        ("fresh", [mode, signs, towing]) => read_settings([mode, signs, towing]).map(Call::Fresh),
         ("car", changes) => changes.iter().map(|change| read_change(change)).collect::<Option<_>>().map(Call::Change),
         ("read", _) => hex_words(rest).map(Call::Read),
         ("drive", [word]) => hex_word(word).map(Call::Drive),
@@ -135,12 +136,15 @@ fn read_call(line: &str) -> Option<Call> {
     }
 }
 
-/// Mode, signs, towing, which today's settings do not have, the buffer's length and the words.
+fn read_settings([mode, signs, towing]: [&str; 3]) -> Option<Settings> {
+    Some(Settings([mode.parse().ok()?, signs.parse().ok()?, towing.parse().ok()?]))
+}
+
+/// The settings, the buffer's length and the words.
 fn read_copy(line: &str) -> Option<Copy> {
     match &line.split_whitespace().collect::<Vec<_>>()[..] {
-        [mode, signs, "0", room, words @ ..] => Some(Copy {
-            mode: mode.parse().ok()?,
-            signs: signs.parse().ok()?,
+        [mode, signs, towing, room, words @ ..] => Some(Copy {
+            settings: read_settings([mode, signs, towing])?,
             room: room.parse().ok()?,
             words: hex_parts(words)?,
         }),
@@ -148,12 +152,12 @@ fn read_copy(line: &str) -> Option<Copy> {
     }
 }
 
-/// The mark, settings with towing, which today's do not have, or a record, and behind a colon the words.
+/// The mark, settings or a record, and behind a colon the words.
 fn read_mark(line: &str) -> Option<Mark> {
     let (start, words) = line.split_once(':')?;
     let (mark, start) = match &start.split_whitespace().collect::<Vec<_>>()[..] {
-        [mark, "fresh", mode, signs, "0"] => {
-            (mark.parse().ok()?, Start::Fresh { mode: mode.parse().ok()?, signs: signs.parse().ok()? })
+        [mark, "fresh", mode, signs, towing] => {
+            (mark.parse().ok()?, Start::Fresh(read_settings([mode, signs, towing])?))
         }
         [mark, "rec", record @ ..] => (mark.parse().ok()?, Start::Record(hex_parts(record)?)),
         _ => return None,
@@ -411,13 +415,12 @@ fn hex(words: &[u32]) -> String {
     words.iter().map(|word| format!("{word:08X}")).collect::<Vec<_>>().join(" ")
 }
 
-/// Holds a folder's lines to the model's. A blank at a line's end and a field towing that is 0, which today's car does
-/// not have, are passed over.
+/// Holds a folder's lines to the model's. A blank at a line's end is passed over.
 fn hold_lines(name: &str, given: &str, model: &[String]) -> Result<usize, String> {
-    let given: Vec<String> = given.lines().map(|line| line.trim_end().replace(" towing=0 ", " ")).collect();
+    let given: Vec<&str> = given.lines().map(str::trim_end).collect();
     let mut call = String::new();
     for number in 0..given.len().max(model.len()) {
-        let given = given.get(number).map_or("(no line)", String::as_str);
+        let given = given.get(number).copied().unwrap_or("(no line)");
         let model = model.get(number).map_or("(no line)", |line| line.trim_end());
         if given.starts_with("call ") {
             call = format!(", {given}");

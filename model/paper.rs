@@ -107,6 +107,7 @@ impl ForeBack {
 pub struct Car {
     pub mode: Mode,
     pub signs: bool,
+    pub towing: bool,
     pub key: Key,
     /// L
     pub up_down: UpDown,
@@ -150,24 +151,25 @@ pub struct Car {
 }
 
 impl Car {
-    /// The fresh car of a settings word, kind 13 (bits 0-1 mode, bit 2 signs). 17: another kind, an unnamed bit set or a
-    /// mode not 1 or 2.
+    /// The fresh car of a settings word, kind 13 (bits 0-1 mode, bit 2 signs, bit 3 towing). 17: another kind, an unnamed
+    /// bit set or a mode not 1 or 2.
     pub fn start(settings: u32) -> Result<Car, u32> {
-        if settings >> 28 != 13 || settings & 0x0FFF_FFF8 != 0 {
+        if settings >> 28 != 13 || settings & 0x0FFF_FFF0 != 0 {
             return Err(17);
         }
-        Car::fresh(settings & 3, settings >> 2 & 1)
+        Car::fresh(settings & 3, settings >> 2 & 1, settings >> 3 & 1)
     }
 
     /// A fresh car is made from its settings. 17: settings outside their values.
-    pub fn fresh(mode: u32, signs: u32) -> Result<Car, u32> {
+    pub fn fresh(mode: u32, signs: u32, towing: u32) -> Result<Car, u32> {
         let mode = Mode::new(mode).ok_or(17u32)?;
-        if signs > 1 {
+        if signs > 1 || towing > 1 {
             return Err(17);
         }
         Ok(Car {
             mode,
             signs: signs == 1,
+            towing: towing == 1,
             key: Key::Out,
             up_down: UpDown::Neutral,
             fore_back: ForeBack::Neutral,
@@ -190,6 +192,15 @@ impl Car {
             now: 0,
             tested: 0,
         })
+    }
+
+    /// The ceiling on D and B: 2000, with towing 1000.
+    pub fn ceiling(&self) -> i32 {
+        if self.towing {
+            1000
+        } else {
+            2000
+        }
     }
 }
 
@@ -436,15 +447,15 @@ impl Car {
     fn up_down_moved(mut self, lever: UpDown) -> Car {
         self.up_down = lever;
         if lever.is_out() && !self.cruise {
-            self.desired = self.speed.min(2000);
+            self.desired = self.speed.min(self.ceiling());
         }
         if lever.is_out() && self.cruise {
             let whole_tens = self.desired / 100 * 100;
             let greatest_multiple_below = (self.desired - 1).div_euclid(100) * 100;
             self.desired = match lever {
                 UpDown::Neutral => self.desired,
-                UpDown::Up5 => (self.desired + 10).min(2000),
-                UpDown::Up7 => (whole_tens + 100).min(2000),
+                UpDown::Up5 => (self.desired + 10).min(self.ceiling()),
+                UpDown::Up7 => (whole_tens + 100).min(self.ceiling()),
                 UpDown::Down5 => (self.desired - 10).max(10),
                 UpDown::Down7 => greatest_multiple_below.max(10),
             };
@@ -466,7 +477,7 @@ impl Car {
                 if key_on && self.brake == 0 && (self.cruise || self.speed >= 200 || self.desired > 0) {
                     self.cruise = true;
                     if self.desired == 0 {
-                        self.desired = self.speed.min(2000);
+                        self.desired = self.speed.min(self.ceiling());
                     }
                 }
             }
@@ -513,6 +524,10 @@ impl Car {
                 } else if self.hand_set > 0 {
                     self.desired = self.hand_set;
                 }
+            }
+            // With towing a sign's D is cut to 1000.
+            if sign >= 200 {
+                self.desired = self.desired.min(self.ceiling());
             }
         }
         self
@@ -605,7 +620,7 @@ impl Car {
         let held = self.now - self.lever_time;
         // A tick with cruise off keeps D.
         if self.cruise && self.up_down.is_out() && held >= 2 {
-            self.desired = held_desired(self.up_down, self.lever_base, held);
+            self.desired = held_desired(self.ceiling(), self.up_down, self.lever_base, held);
         }
         self.speed = (old_speed + acceleration * 36 / 10).clamp(0, 5000);
         if self.limiter {
@@ -618,16 +633,16 @@ impl Car {
     }
 }
 
-/// D with cruise on and L out: the tick's formula for h = `held`, or B for h below 2.
-pub fn held_desired(lever: UpDown, base: i32, held: i32) -> i32 {
+/// D with cruise on and L out: the tick's formula for h = `held`, or B for h below 2. `top` is the ceiling.
+pub fn held_desired(top: i32, lever: UpDown, base: i32, held: i32) -> i32 {
     if held < 2 {
         return base;
     }
     let whole_tens = base / 100 * 100;
     match lever {
         UpDown::Neutral => base,
-        UpDown::Up5 => (base + (held - 1) * 10).min(2000),
-        UpDown::Up7 => (whole_tens + (held / 2) * 100).min(2000),
+        UpDown::Up5 => (base + (held - 1) * 10).min(top),
+        UpDown::Up7 => (whole_tens + (held / 2) * 100).min(top),
         UpDown::Down5 => (base - (held - 1) * 10).max(10),
         UpDown::Down7 => (whole_tens - (held / 2) * 100).max(10),
     }
@@ -655,10 +670,10 @@ impl Car {
             && (0..=225).contains(&self.gas)
             && (0..=5000).contains(&self.speed)
             && (0..=5000).contains(&self.limit)
-            && (0..=2000).contains(&self.desired)
-            && (self.hand_set == 0 || (1200..=2000).contains(&self.hand_set))
+            && (0..=self.ceiling()).contains(&self.desired)
+            && (self.hand_set == 0 || (!self.towing && (1200..=2000).contains(&self.hand_set)))
             && self.lever_time >= 0
-            && (0..=2000).contains(&self.lever_base)
+            && (0..=self.ceiling()).contains(&self.lever_base)
             && (0..=255).contains(&self.range)
             && (0..=5000).contains(&self.ahead)
             && (0..=5000).contains(&self.ahead_before)
@@ -697,9 +712,10 @@ impl Car {
         !self.up_down.is_out() || !self.fore_back.is_out()
     }
 
-    /// (c) C = 1: b = 0, M not backward, 1 <= D <= 2000.
+    /// (c) C = 1: b = 0, M not backward, 1 <= D <= 2000, with towing 1000.
     fn rule_c(&self) -> bool {
-        !self.cruise || (self.brake == 0 && self.fore_back != ForeBack::Backward && (1..=2000).contains(&self.desired))
+        let desired = 1..=self.ceiling();
+        !self.cruise || (self.brake == 0 && self.fore_back != ForeBack::Backward && desired.contains(&self.desired))
     }
 
     /// (d) S = 1: H = 1, g <= 90, v <= Z. H = 1: key on, M not backward.
@@ -717,14 +733,14 @@ impl Car {
     /// (f) C = 1, L out: D is the tick's formula with h = now - T, or B for h below 2.
     fn rule_f(&self) -> bool {
         !(self.cruise && self.up_down.is_out())
-            || self.desired == held_desired(self.up_down, self.lever_base, self.now - self.lever_time)
+            || self.desired == held_desired(self.ceiling(), self.up_down, self.lever_base, self.now - self.lever_time)
     }
 }
 
 // ---------------------------------------------------------------- The record
 
 /// How many bits of each word hold fields; those between them and the place are 0.
-const NAMED_BITS: [u32; 12] = [14, 16, 13, 13, 22, 17, 11, 21, 13, 5, 17, 17];
+const NAMED_BITS: [u32; 12] = [15, 16, 13, 13, 22, 17, 11, 21, 13, 5, 17, 17];
 
 impl Car {
     pub fn write(&self) -> [u32; 12] {
@@ -737,7 +753,8 @@ impl Car {
             | (self.button as u32) << 10
             | (self.limiter as u32) << 11
             | (self.cruise as u32) << 12
-            | (self.ready as u32) << 13;
+            | (self.ready as u32) << 13
+            | (self.towing as u32) << 14;
         [
             word(0, settings_and_levers),
             word(1, self.brake as u32 | (self.gas as u32) << 8),
@@ -770,6 +787,7 @@ impl Car {
         let car = Car {
             mode: Mode::new(bits(words[0], 0, 2))?,
             signs: flag(2),
+            towing: flag(14),
             key: Key::new(bits(words[0], 3, 2))?,
             up_down: UpDown::new(bits(words[0], 5, 3))?,
             fore_back: ForeBack::new(bits(words[0], 8, 2))?,
@@ -1056,7 +1074,7 @@ impl Car {
         shown(self) == shown(other)
             && kept(self) == kept(other)
             && radar(self) == radar(other)
-            && (self.mode, self.signs) == (other.mode, other.signs)
+            && (self.mode, self.signs, self.towing) == (other.mode, other.signs, other.towing)
             && (!held || self.now - self.lever_time == other.now - other.lever_time)
             && (self.key != Key::On || self.now - self.tested == other.now - other.tested)
     }

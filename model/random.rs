@@ -299,12 +299,12 @@ pub fn mark(random: &mut Random, seconds: &[Second]) -> u32 {
 }
 
 pub fn good_settings(random: &mut Random) -> u32 {
-    word(13, random.pick(&[1, 2, 5, 6]))
+    word(13, random.pick(&[1, 2, 5, 6, 9, 10, 13, 14]))
 }
 
-/// A word with bits 0-2 and the kind of a settings word, one or two bits from it, or any word.
+/// A word with bits 0-3 and the kind of a settings word, one or two bits from it, or any word.
 pub fn settings_word(random: &mut Random) -> u32 {
-    let settings = word(13, random.between(0, 7));
+    let settings = word(13, random.between(0, 15));
     match random.below(8) {
         0..=3 => settings,
         4 | 5 => settings ^ 1 << random.below(32),
@@ -377,7 +377,8 @@ fn any_float(random: &mut Random) -> u32 {
 
 pub fn fresh_car(random: &mut Random) -> Car {
     let mode = if random.once_in(4) { 1 } else { 2 };
-    Car::fresh(mode, random.below(2)).expect("good settings")
+    let towing = u32::from(random.once_in(3));
+    Car::fresh(mode, random.below(2), towing).expect("good settings")
 }
 
 /// A car that a list of words reaches.
@@ -408,8 +409,9 @@ pub fn made_car(random: &mut Random) -> Car {
     car.key = Key::On;
     car.tested =
         random.near(&[car.now, car.now - 300, car.now - TEST_PERIOD + 1], car.now).max(car.now - TEST_PERIOD + 1);
-    car.desired = random.near(&[0, 10, 200, 500, 1200, 2000], 2000);
-    car.hand_set = if random.once_in(2) { 0 } else { random.near(&[1200, 1600, 2000], 2000).max(1200) };
+    let top = car.ceiling();
+    car.desired = random.near(&[0, 10, 200, 500, 1200, top], top);
+    car.hand_set = if car.towing || random.once_in(2) { 0 } else { random.near(&[1200, 1600, 2000], 2000).max(1200) };
     make_cruise(random, &mut car);
     make_pedals(random, &mut car);
     car.speed = random.near(&[0, 200, 216, car.desired, car.desired + 40, 2000, 5000], 5000);
@@ -426,12 +428,13 @@ fn make_cruise(random: &mut Random, car: &mut Car) {
     car.desired = car.desired.max(1);
     if car.up_down.is_out() {
         let held = random.near(&[0, 2, 4, 50], car.now.min(300));
-        car.lever_base = random.near(&[0, 10, 100, 550, 1000, 1990, 2000], 2000);
+        let top = car.ceiling();
+        car.lever_base = random.near(&[0, 10, 100, 550, 1000, top - 10, top], top);
         car.lever_time = car.now - held;
-        if held_desired(car.up_down, car.lever_base, held) == 0 {
+        if held_desired(top, car.up_down, car.lever_base, held) == 0 {
             car.lever_base = 1;
         }
-        car.desired = held_desired(car.up_down, car.lever_base, held);
+        car.desired = held_desired(top, car.up_down, car.lever_base, held);
     }
 }
 
@@ -509,7 +512,7 @@ const fn field(name: &'static str, place: usize, low: u32, width: u32, top: u32)
     Field { name, place, low, width, top }
 }
 
-pub const FIELDS: [Field; 23] = [
+pub const FIELDS: [Field; 24] = [
     field("mode", 0, 0, 2, 2),
     field("signs", 0, 2, 1, 1),
     field("key", 0, 3, 2, 2),
@@ -519,6 +522,7 @@ pub const FIELDS: [Field; 23] = [
     field("S", 0, 11, 1, 1),
     field("C", 0, 12, 1, 1),
     field("P", 0, 13, 1, 1),
+    field("towing", 0, 14, 1, 1),
     field("b", 1, 0, 8, 225),
     field("g", 1, 8, 8, 225),
     field("v", 2, 0, 13, 5000),
@@ -541,15 +545,26 @@ impl Field {
         record[self.place] >> self.low & ((1 << self.width) - 1)
     }
 
+    /// The top of its range: with towing 1000 for D and B, and 0 for E.
+    fn top(&self, record: &[u32; 12]) -> u32 {
+        let towing = record[0] >> 14 & 1 == 1;
+        match self.name {
+            "D" | "B" if towing => 1000,
+            "E" if towing => 0,
+            _ => self.top,
+        }
+    }
+
     /// Another value for this field: at an edge, just outside, beside the present one, or anywhere.
     pub fn change(&self, random: &mut Random, record: &mut [u32; 12]) {
         let all_ones = (1 << self.width) - 1;
         let present = self.read(record);
+        let top = self.top(record);
         let value = match random.below(8) {
             0 => 0,
             1 => 1,
-            2 => self.top,
-            3 => self.top + 1,
+            2 => top,
+            3 => top + 1,
             4 => all_ones,
             5 => present.wrapping_sub(1),
             6 => present + 1,

@@ -1,5 +1,5 @@
-//! Cruise that is left alone settles (document 02, §10): from every v to every D, by lessons of the library and of the
-//! model.
+//! Cruise that is left alone settles (document 02, §10): from every v to every D, towing too (§11), by lessons of the
+//! library and of the model.
 
 use crate::library;
 use crate::paper::{Car, Key, Mode, CLOCK_END, NOT_READY};
@@ -10,7 +10,8 @@ use std::time::Instant;
 /// "Some tick among the next 64 accepted ones ends with v = D."
 const TICKS: usize = 64;
 const TOP_SPEED: i32 = 5000;
-const TOP_DESIRED: i32 = 2000;
+/// The ceiling of D with towing 0 and 1.
+const TOP_DESIRED: [i32; 2] = [2000, 1000];
 /// How many threads share the desired speeds.
 const THREADS: i32 = 2;
 
@@ -34,7 +35,7 @@ pub fn run() -> bool {
             }
         }
     }
-    println!("no difference in {} cars left to cruise, {:.1?}", (TOP_SPEED + 1) * TOP_DESIRED, start.elapsed());
+    println!("no difference in {} cars left to cruise, {:.1?}", (TOP_SPEED + 1) * TOP_DESIRED.iter().sum::<i32>(), start.elapsed());
     let [below, above] =
         slowest.map(|(ticks, Reverse(desired), Reverse(speed))| format!("{ticks} ticks from v {speed} to D {desired}"));
     println!("  all settle, the slowest from below in {below}, from above in {above}");
@@ -44,11 +45,13 @@ pub fn run() -> bool {
 /// Every v with one thread's share of the desired speeds, up to the first difference.
 fn swept(first: i32) -> Result<Slowest, String> {
     let mut slowest = Slowest::default();
-    for desired in (first..=TOP_DESIRED).step_by(THREADS as usize) {
-        for speed in 0..=TOP_SPEED {
-            let ticks = settled(left_alone(speed, desired))?;
-            let most = &mut slowest[usize::from(speed > desired)];
-            *most = (ticks, Reverse(desired), Reverse(speed)).max(*most);
+    for (towing, top) in (0..).zip(TOP_DESIRED) {
+        for desired in (first..=top).step_by(THREADS as usize) {
+            for speed in 0..=TOP_SPEED {
+                let ticks = settled(left_alone(towing, speed, desired))?;
+                let most = &mut slowest[usize::from(speed > desired)];
+                *most = (ticks, Reverse(desired), Reverse(speed)).max(*most);
+            }
         }
     }
     Ok(slowest)
@@ -56,9 +59,9 @@ fn swept(first: i32) -> Result<Slowest, String> {
 
 /// "A car with key on, cruise on, gas 0, both levers neutral, limiter off, and mode 1 or R 0 or 255", as many ticks
 /// before the clock's end as it gets, with a test of the radar among them.
-fn left_alone(speed: i32, desired: i32) -> Car {
+fn left_alone(towing: u32, speed: i32, desired: i32) -> Car {
     let now = CLOCK_END - TICKS as i32;
-    let car = Car::fresh(1, 0).expect("good settings");
+    let car = Car::fresh(1, 0, towing).expect("good settings");
     let car = Car { key: Key::On, cruise: true, speed, desired, now, tested: now - 580, ..car };
     match (speed + desired) % 3 {
         0 => Car { ready: true, range: 0, ..car },

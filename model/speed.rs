@@ -53,7 +53,8 @@ impl Lesson {
 
     /// The settings word of its car.
     fn settings(&self) -> u32 {
-        0xD000_0000 | self.record[0] & 7
+        let first = self.record[0];
+        0xD000_0000 | first & 7 | (first >> 14 & 1) << 3
     }
 
     fn with_mark(&self, choose: fn(&[Second]) -> u32) -> Lesson {

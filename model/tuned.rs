@@ -24,6 +24,8 @@ const UNNAMED: [u32; 16] = {
 struct Car {
     adaptive: bool,
     signs: bool,
+    /// The ceiling on D and B.
+    top: u32,
     key: u32,
     l: u32,
     m: u32,
@@ -75,6 +77,7 @@ impl Car {
         let mut car = Car {
             adaptive: from.mode == Mode::Adaptive,
             signs: from.signs,
+            top: from.ceiling() as u32,
             key: from.key as u32,
             l: from.up_down as u32,
             m: from.fore_back as u32,
@@ -111,6 +114,7 @@ impl Car {
         paper::Car {
             mode: from.mode,
             signs: from.signs,
+            towing: from.towing,
             key: [Key::Out, Key::In, Key::On][self.key as usize],
             up_down: [UpDown::Neutral, UpDown::Up5, UpDown::Up7, UpDown::Down5, UpDown::Down7][self.l as usize],
             fore_back: [ForeBack::Neutral, ForeBack::Forward, ForeBack::Backward][self.m as usize],
@@ -204,14 +208,14 @@ impl Car {
             (self.t, self.base) = (0, 0);
         } else if self.c {
             self.d = match l {
-                1 => (self.d + 10).min(2000),
-                2 => (self.d / 100 * 100 + 100).min(2000),
+                1 => (self.d + 10).min(self.top),
+                2 => (self.d / 100 * 100 + 100).min(self.top),
                 3 => self.d.saturating_sub(10).max(10),
                 _ => (self.d.saturating_sub(1) / 100 * 100).max(10),
             };
             (self.t, self.base) = (self.now, self.d);
         } else {
-            self.d = self.v.min(2000);
+            self.d = self.v.min(self.top);
         }
         if self.d >= 1200 {
             self.e = self.d;
@@ -237,7 +241,7 @@ impl Car {
         if m == 1 && self.key == 2 && self.b == 0 && (self.c || self.v >= 200 || self.d > 0) {
             self.c = true;
             if self.d == 0 {
-                self.d = self.v.min(2000);
+                self.d = self.v.min(self.top);
             }
             self.refresh();
         } else if m == 2 {
@@ -342,6 +346,7 @@ impl Car {
             } else if self.e > 0 {
                 self.d = self.e;
             }
+            self.d = self.d.min(self.top);
             self.refresh();
         }
         0
@@ -409,8 +414,8 @@ impl Car {
         }
         let whole_tens = self.base / 100 * 100;
         self.d = match self.l {
-            1 => (self.base + (held - 1) * 10).min(2000),
-            2 => (whole_tens + held / 2 * 100).min(2000),
+            1 => (self.base + (held - 1) * 10).min(self.top),
+            2 => (whole_tens + held / 2 * 100).min(self.top),
             3 => self.base.saturating_sub((held - 1) * 10).max(10),
             _ => whole_tens.saturating_sub(held / 2 * 100).max(10),
         };

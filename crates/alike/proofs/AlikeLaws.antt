@@ -36,6 +36,7 @@ pub record Alike (a b : Car) : Type 0 where
 record Positions (a b : Car) : Type 0 where
   mode : a.settings.mode ≡ b.settings.mode
   signs : a.settings.signs ≡ b.settings.signs
+  towing : a.settings.towing ≡ b.settings.towing
   key : a.key ≡ b.key
   updown : a.levers.updown ≡ b.levers.updown
   foreback : a.levers.foreback ≡ b.levers.foreback

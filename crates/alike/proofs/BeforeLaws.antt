@@ -8,7 +8,7 @@ use Rattle.event.specs.Words.{permitted_gap}
 use Rattle.desired.specs.Desired.{long_held, held}
 use Rattle.car.specs.declared.Car.{Car}
 use Rattle.car.specs.Car.{ceiling_of, with_levers}
-use Rattle.car.specs.Good.{positions_of, numbers_of, ranges_of, times_of, rule_a, rule_b, rule_c, rule_d, rule_e, rule_f, obeys_of, good_of}
+use Rattle.car.specs.Good.{positions_of, numbers_of, ranges_of, times_of, rule_a, rule_b, rule_c, rule_d, rule_e, rule_f, obeys_of, good_at, good_of}
 use Rattle.car.proofs.FiguresTable.{holding}
 use Rattle.car.specs.Rules.{hold_desired, tick_desired, ticked}
 use Rattle.alike.specs.Alike.{positions_alike, numbers_alike, same_ago, times_alike, alike_of}
@@ -40,7 +40,7 @@ abbrev pub a_second_ago : Car
 a_second_ago = held_since 0
 
 pub both_good : (good_of just_now ≡ true) × (good_of a_second_ago ≡ true)
-unfolding with_levers good_of ranges_of positions_of numbers_of ceiling_of permitted_gap obeys_of times_of rule_a rule_b rule_c rule_d rule_e rule_f held pick
+unfolding with_levers good_of good_at ranges_of positions_of numbers_of ceiling_of permitted_gap obeys_of times_of rule_a rule_b rule_c rule_d rule_e rule_f held pick
 both_good = (refl, refl)
 
 pub marked_alike : (alike_before just_now a_second_ago ≡ true) × (alike_of just_now a_second_ago ≡ false)

@@ -9,7 +9,7 @@ use Rattle.car.specs.Good.{lever_held}
 unfoldable pub timed : Car → ℕ → ℕ → ℕ → Car
 timed c time tested now =
     record {
-      settings = record { mode = c.settings.mode; signs = c.settings.signs };
+      settings = record { mode = c.settings.mode; signs = c.settings.signs; towing = c.settings.towing };
       key = c.key;
       levers = record { updown = c.levers.updown; foreback = c.levers.foreback; time = time; base = c.levers.base };
       pedals = record { brake = c.pedals.brake; gas = c.pedals.gas };

@@ -12,6 +12,7 @@ unfoldable pub positions_alike : Car → Car → Bool
 positions_alike a b =
     eqb a.settings.mode b.settings.mode
     && beq a.settings.signs b.settings.signs
+    && beq a.settings.towing b.settings.towing
     && eqb a.key b.key
     && eqb a.levers.updown b.levers.updown
     && eqb a.levers.foreback b.levers.foreback

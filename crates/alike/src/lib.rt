@@ -13,6 +13,7 @@ fn positions_alike(a: Car, b: Car) -> bool
 {
     (a.settings.mode == b.settings.mode)
         & (a.settings.signs == b.settings.signs)
+        & (a.settings.towing == b.settings.towing)
         & (a.key == b.key)
         & (a.levers.updown == b.levers.updown)
         & (a.levers.foreback == b.levers.foreback)

@@ -28,8 +28,8 @@ fn records(pair: &mut Pair, input: &mut Reader<'_>, page: &mut Page<'_>) {
 }
 
 fn cars(input: &mut Reader<'_>, page: &mut Page<'_>) {
-    let first = tester::car_at(&input.take::<23>(), 0);
-    let second = tester::car_at(&input.take::<23>(), 0);
+    let first = tester::car_at(&input.take::<24>(), 0);
+    let second = tester::car_at(&input.take::<24>(), 0);
     page.words_line(&[event::bit(alike::alike(first, second))]);
 }
 

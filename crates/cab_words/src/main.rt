@@ -1,5 +1,5 @@
 // Drives a car by the open call, which is lent a local car. Standard input (words, little-endian): how many words follow the settings,
-// the settings' mode and signs, the words. Prints for each word its refusal and the car's speed and desired speed behind it.
+// the settings' mode, signs and towing, the words. Prints for each word its refusal and the car's speed and desired speed behind it.
 #![tactic(auto)]
 
 ghost use Rattle.std.specs.Prelude.{◌≡◌};
@@ -31,8 +31,8 @@ fn lines(first: Car, count: u32, mut input: Reader<'_>, page: &mut Page<'_>) {
 
 fn drive(words: &[u32], page: &mut Page<'_>) {
     let mut input = Reader { words, next: 0 };
-    let [count, mode, signs] = input.take::<3>();
-    match Car::fresh(mode, signs) {
+    let [count, mode, signs, towing] = input.take::<4>();
+    match Car::fresh(mode, signs, towing) {
         Ok(car) => lines(car, count, input, page),
         Err(refusal) => page.last(u32::from(refusal)),
     }

@@ -36,17 +36,17 @@ fresh_left_lem c ws g l =
 
 -- ---- the words are the record of a session's car
 record Met (ws : List ℕ) (s : Session) : Type 0 where
-  pub permitted : Permitted s.mode s.signs
+  pub permitted : Permitted s.mode s.signs s.towing
   pub words : ws ≡ packed (last s)
 
-last_good : (s : Session) → Permitted s.mode s.signs → good_of (last s) ≡ true
-last_good s p = good_test _ (demand_3 s.mode s.signs p s.calls).standing
+last_good : (s : Session) → Permitted s.mode s.signs s.towing → good_of (last s) ≡ true
+last_good s p = good_test _ (demand_3 s.mode s.signs s.towing p s.calls).standing
 
-going_met : (s : Session) (ks : List Call) → Permitted s.mode s.signs → Met (packed (ends (last s) ks)) (going s ks)
+going_met : (s : Session) (ks : List Call) → Permitted s.mode s.signs s.towing → Met (packed (ends (last s) ks)) (going s ks)
 unfolding going
 going_met s ks p = record { permitted = p; words = ap packed (sym (ends_append (first s) s.calls ks)) }
 
-one_met : (s : Session) (k : Call) → Permitted s.mode s.signs → Met (recorded (outcome (last s) k)).words (going s (k ∷ []))
+one_met : (s : Session) (k : Call) → Permitted s.mode s.signs s.towing → Met (recorded (outcome (last s) k)).words (going s (k ∷ []))
 unfolding recorded plain ends car_of
 one_met s k p = rw (by (outcome (last s) k)) (going_met s (k ∷ []) p)
   where
@@ -55,14 +55,14 @@ one_met s k p = rw (by (outcome (last s) k)) (going_met s (k ∷ []) p)
     by (taught t b) = refl
     by (kept x b) = refl
 
-see_met : (s : Session) (a : Answer (Option ℕ)) → Permitted s.mode s.signs → Met (given_see s a).words (going s (heard_sight a))
+see_met : (s : Session) (a : Answer (Option ℕ)) → Permitted s.mode s.signs s.towing → Met (given_see s a).words (going s (heard_sight a))
 unfolding given_see heard_sight plain ends
 see_met s (gives (Some w)) p = one_met s (word w) p
 see_met s (gives None) p = going_met s [] p
 see_met s (refused n) p = going_met s [] p
 
 -- a call of a session leaves the record of the session that goes on
-given_met : (s : Session) (k : LibraryCall) → Permitted s.mode s.signs → Met (given_in s k).words (heard s k)
+given_met : (s : Session) (k : LibraryCall) → Permitted s.mode s.signs s.towing → Met (given_in s k).words (heard s k)
 unfolding given_in given_fresh heard heard_fresh plain begun ends
 given_met s (cruise_fresh w) p = go (start_of w) refl
   where
@@ -96,7 +96,7 @@ module _ (ws : List ℕ) (s : Session) (m : Met ws s) where
   unfolding given_fresh fresh_left
   fresh_gave w (gives c) e =
       let t = started_written w c e in
-      rw t.car (fresh_left_lem _ ws (permitted_good _ _ t.permitted) is_twelve)
+      rw t.car (fresh_left_lem _ ws (permitted_good _ _ _ t.permitted) is_twelve)
   fresh_gave w (refused n) e = rw (refused_17 w n e, m.words)
 
   drive_gave : (w : ℕ) → drive_left ws (read_of ws) w ≡ record { refusal = (drive_of (last s) w).refusal; words = packed (drive_of (last s) w).car }
@@ -127,27 +127,27 @@ all_met ws s [] m = m
 all_met ws s (k ∷ ks) m = all_met (left ws k).words (heard s k) ks (after_met ws s m k)
 
 -- the settings word of permitted settings, into a record of twelve words
-begun_left : (ws : List ℕ) (mode signs : ℕ) → Permitted mode signs → length ws ≡ 12
-    → left ws (cruise_fresh (word_of mode signs)) ≡ plain (record { refusal = 0; words = packed (fresh_car (settings_of mode signs)) })
+begun_left : (ws : List ℕ) (mode signs towing : ℕ) → Permitted mode signs towing → length ws ≡ 12
+    → left ws (cruise_fresh (word_of mode signs towing)) ≡ plain (record { refusal = 0; words = packed (fresh_car (settings_of mode signs towing)) })
 unfolding left
-begun_left ws mode signs p l =
-    rw (written_started mode signs (word_of mode signs) (permitted_written mode signs p)) (ap plain (fresh_left_lem _ ws (permitted_good mode signs p) l))
+begun_left ws mode signs towing p l =
+    rw (written_started mode signs towing (word_of mode signs towing) (permitted_written mode signs towing p)) (ap plain (fresh_left_lem _ ws (permitted_good mode signs towing p) l))
 
-begun_met : (ws : List ℕ) (mode signs : ℕ) → Permitted mode signs → length ws ≡ 12
-    → Met (left ws (cruise_fresh (word_of mode signs))).words (begun mode signs)
+begun_met : (ws : List ℕ) (mode signs towing : ℕ) → Permitted mode signs towing → length ws ≡ 12
+    → Met (left ws (cruise_fresh (word_of mode signs towing))).words (begun mode signs towing)
 unfolding begun ends plain
-begun_met ws mode signs p l = record { permitted = p; words = ap (λ (x : LessonLeft). x.words) (begun_left ws mode signs p l) }
+begun_met ws mode signs towing p l = record { permitted = p; words = ap (λ (x : LessonLeft). x.words) (begun_left ws mode signs towing p l) }
 
 -- who links the library has demand 3: of every list of its calls on one record
-pub callers : (words : List ℕ) (mode signs : ℕ) → length words ≡ 12 → Permitted mode signs → (ks : List LibraryCall) → Calling words mode signs ks
+pub callers : (words : List ℕ) (mode signs towing : ℕ) → length words ≡ 12 → Permitted mode signs towing → (ks : List LibraryCall) → Calling words mode signs towing ks
 unfolding words_after plain
-callers words mode signs l p ks = record {
-  made = ap (λ (x : LessonLeft). x.refusal) (begun_left words mode signs p l);
+callers words mode signs towing l p ks = record {
+  made = ap (λ (x : LessonLeft). x.refusal) (begun_left words mode signs towing p l);
   permitted = λ js ls _. (met js).permitted;
   car = λ js ls _. (met js).words;
   each = λ js k ls _. gave _ _ (met js) k;
-  demand = λ js ls _. demand_3 _ _ (met js).permitted _;
+  demand = λ js ls _. demand_3 _ _ _ (met js).permitted _;
 }
   where
-    met : (js : List LibraryCall) → Met (words_after (left words (cruise_fresh (word_of mode signs))).words js) (heard_all (begun mode signs) js)
-    met js = all_met _ _ js (begun_met words mode signs p l)
+    met : (js : List LibraryCall) → Met (words_after (left words (cruise_fresh (word_of mode signs towing))).words js) (heard_all (begun mode signs towing) js)
+    met js = all_met _ _ js (begun_met words mode signs towing p l)

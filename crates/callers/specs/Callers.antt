@@ -4,7 +4,7 @@ use Rattle.std.specs.Prelude.{List, [], ◌∷◌, ◌++◌, ◌≡◌, ℕ, Flo
 use Rattle.kit.specs.Answer.{Answer, gives, refused, number_of}
 use Rattle.car.specs.declared.Car.{Car}
 use Rattle.car.specs.Car.{fresh_car, settings_of, Permitted}
-use Rattle.settings.specs.SettingsWord.{mode_of, signs_of, start_of, word_of}
+use Rattle.settings.specs.SettingsWord.{mode_of, signs_of, towing_of, start_of, word_of}
 use Rattle.record.specs.Layout.{packed}
 use Rattle.record.specs.Record.{read_of}
 use Rattle.record.specs.RecordLesson.{LessonLeft, lesson_left}
@@ -42,21 +42,22 @@ words_after ws (k ∷ ks) = words_after (left ws k).words ks
 pub record Session : Type 0 where
   pub mode : ℕ
   pub signs : ℕ
+  pub towing : ℕ
   pub calls : List Call
 
-unfoldable pub begun : ℕ → ℕ → Session
-begun mode signs = record { mode = mode; signs = signs; calls = [] }
+unfoldable pub begun : ℕ → ℕ → ℕ → Session
+begun mode signs towing = record { mode = mode; signs = signs; towing = towing; calls = [] }
 
 unfoldable pub going : Session → List Call → Session
-going s ks = record { mode = s.mode; signs = s.signs; calls = s.calls ++ ks }
+going s ks = record { mode = s.mode; signs = s.signs; towing = s.towing; calls = s.calls ++ ks }
 
 -- the record written and read back, which is what `cruise_test` tries
 abbrev pub record_call : Call
 record_call = keep (replicate 12 0)
 
--- a settings word that starts a car begins a new list, with its mode and signs; one that is refused is no call of the list
+-- a settings word that starts a car begins a new list, with its settings; one that is refused is no call of the list
 unfoldable pub heard_fresh : Session → ℕ → Answer Car → Session
-heard_fresh s w (gives c) = begun (mode_of w) (signs_of w)
+heard_fresh s w (gives c) = begun (mode_of w) (signs_of w) (towing_of w)
 heard_fresh s w (refused n) = s
 
 -- a sighting is what demand 3 hears of it: with an event the call of its word; a fault and one that is turned away are no call of the list
@@ -73,7 +74,7 @@ heard_all s (k ∷ ks) = heard_all (heard s k) ks
 
 -- the fresh car of a session, and the car after its calls
 abbrev pub first : Session → Car
-first s = fresh_car (settings_of s.mode s.signs)
+first s = fresh_car (settings_of s.mode s.signs s.towing)
 
 abbrev pub last : Session → Car
 last s = ends (first s) s.calls
@@ -85,9 +86,9 @@ recorded (drove d) = plain (record { refusal = d.refusal; words = packed d.car }
 recorded (taught t answers) = record { refusal = t.refusal; words = packed t.car; answers = answers; accepted = t.accepted; refused = t.refused }
 recorded (kept k buffer) = plain (record { refusal = k.refusal; words = packed k.car })
 
--- the fresh car of the word's mode and signs, or 17 and the car as it was
+-- the fresh car of the word's settings, or 17 and the car as it was
 unfoldable pub given_fresh : Session → ℕ → Answer Car → Left
-given_fresh s w (gives c) = record { refusal = 0; words = packed (fresh_car (settings_of (mode_of w) (signs_of w))) }
+given_fresh s w (gives c) = record { refusal = 0; words = packed (fresh_car (settings_of (mode_of w) (signs_of w) (towing_of w))) }
 given_fresh s w (refused n) = record { refusal = 17; words = packed (last s) }
 
 -- what the event's word gives; with none the car as it was, and the refusal, 0 for a fault
@@ -103,18 +104,19 @@ given_in s (cruise_lesson events answers) = recorded (outcome (last s) (lesson e
 given_in s (cruise_see kind metres kmh) = given_see s (handed_word (sighting_of kind metres kmh))
 given_in s cruise_test = recorded (outcome (last s) record_call)
 
--- what holds of a list of calls on a record, which starts with a fresh car of the settings word of mode and signs: words are those of the
+-- what holds of a list of calls on a record, which starts with a fresh car of the settings word of mode, signs and towing: words are those of the
 -- record before it, of which there are twelve
-pub record Calling (words : List ℕ) (mode signs : ℕ) (ks : List LibraryCall) : Type 0 where
+pub record Calling (words : List ℕ) (mode signs towing : ℕ) (ks : List LibraryCall) : Type 0 where
   -- the fresh car is made
-  pub made : (left words (cruise_fresh (word_of mode signs))).refusal ≡ 0
+  pub made : (left words (cruise_fresh (word_of mode signs towing))).refusal ≡ 0
   -- after each call the record is that of the car which demand 3's calls give from a fresh car of permitted settings
-  pub permitted : (js ls : List LibraryCall) → ks ≡ js ++ ls → Permitted (heard_all (begun mode signs) js).mode (heard_all (begun mode signs) js).signs
+  pub permitted : (js ls : List LibraryCall) → ks ≡ js ++ ls
+      → Permitted (heard_all (begun mode signs towing) js).mode (heard_all (begun mode signs towing) js).signs (heard_all (begun mode signs towing) js).towing
   pub car : (js ls : List LibraryCall) → ks ≡ js ++ ls
-      → words_after words (cruise_fresh (word_of mode signs) ∷ js) ≡ packed (last (heard_all (begun mode signs) js))
+      → words_after words (cruise_fresh (word_of mode signs towing) ∷ js) ≡ packed (last (heard_all (begun mode signs towing) js))
   -- each call gives what demand 3's call gives
   pub each : (js : List LibraryCall) (k : LibraryCall) (ls : List LibraryCall) → ks ≡ js ++ k ∷ ls
-      → left (words_after words (cruise_fresh (word_of mode signs) ∷ js)) k ≡ given_in (heard_all (begun mode signs) js) k
+      → left (words_after words (cruise_fresh (word_of mode signs towing) ∷ js)) k ≡ given_in (heard_all (begun mode signs towing) js) k
   -- and demand 3 holds of them
   pub demand : (js ls : List LibraryCall) → ks ≡ js ++ ls
-      → Demand3 (first (heard_all (begun mode signs) js)) (heard_all (begun mode signs) js).calls
+      → Demand3 (first (heard_all (begun mode signs towing) js)) (heard_all (begun mode signs towing) js).calls

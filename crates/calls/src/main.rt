@@ -1,5 +1,5 @@
-// Runs the calls of standard input (words, little-endian): 1 mode signs, a fresh car; 2 and 23 fields, a car as it stands; 3 word, one
-// word driven; 4 size count words, a lesson with an answer buffer of that size; 5 size, a record call with a buffer of that size; 6 kind metres
+// Runs the calls of standard input (words, little-endian): 1 mode signs towing, a fresh car; 2 and 24 fields, a car as it stands; 3
+// word, one word driven; 4 size count words, a lesson with an answer buffer of that size; 5 size, a record call with a buffer of that size; 6 kind metres
 // kmh, a sighting, the floats as their bits; 0 ends.
 // Prints for each its refusal (a lesson's counts behind it; a word's answer word, and whether the cars before and after it are alike; 1 for a
 // sighting that is a fault), then its buffer, then the car's fields in document 01's order.
@@ -21,8 +21,8 @@ const UNUSED: u32 = 0xDEAD_BEEF;
 
 // Car, input and page stand apart: `tester::cases` hands the last two to each case anew, so that a struct of the three would be made for each.
 fn fresh(car: &mut Car, input: &mut Reader<'_>, page: &mut Page<'_>) {
-    let [mode, signs] = input.take::<2>();
-    let made = Car::fresh(mode, signs);
+    let [mode, signs, towing] = input.take::<3>();
+    let made = Car::fresh(mode, signs, towing);
     page.words_line(&[number(&made)]);
     if let Ok(first) = made {
         *car = first;
@@ -31,7 +31,7 @@ fn fresh(car: &mut Car, input: &mut Reader<'_>, page: &mut Page<'_>) {
 }
 
 fn set(car: &mut Car, input: &mut Reader<'_>) {
-    *car = tester::car_at(&input.take::<23>(), 0);
+    *car = tester::car_at(&input.take::<24>(), 0);
 }
 
 fn drive(car: &mut Car, input: &mut Reader<'_>, page: &mut Page<'_>) {
@@ -115,7 +115,7 @@ fn call(kind: u32, car: &mut Car, input: &mut Reader<'_>, page: &mut Page<'_>) {
 }
 
 fn calls(words: &[u32], page: &mut Page<'_>) {
-    let Ok(first) = Car::fresh(1, 0) else {
+    let Ok(first) = Car::fresh(1, 0, 0) else {
         return page.end_line();
     };
     let mut car = first;

@@ -49,7 +49,7 @@ reaching =
     ∷ replicate 47 (word_of (Tick true))
 
 unfoldable pub fastest : Car
-fastest = driven (fresh_car (settings_of 2 0)) reaching
+fastest = driven (fresh_car (settings_of 2 0 0)) reaching
 
 pub product_reached : (30 * fastest.speed ≡ largest_product) × (secure_distance fastest ≡ 416)
 unfolding fastest reaching fresh_car settings_of driven step_of chosen check_of reading_check event_check input_check own_check next_of reading_next event_next input_next word_of input_word bit_of read_of input_event tick_word input_of inputs_of key_on_of radar_word key_word judged input_range input_kind key_on key_skips key_check pedal_check radar_check tick_check key_radar key_turned gas_pressed reading_taken test_due radar_after tick_desired holds_desired tick_speed ticked acceleration_of speeding gas_term pulled change moved at_most with_pedals with_limiter with_radar metres secure_distance pick

@@ -14,7 +14,7 @@ use Rattle.car.specs.Rules.{hold_desired, tick_desired, ticked}
 abbrev pub behind : ℕ → ℕ → Car
 behind range lead =
     record {
-      settings = record { mode = 2; signs = false };
+      settings = record { mode = 2; signs = false; towing = false };
       key = 2;
       levers = record { updown = 0; foreback = 0; time = 0; base = 0 };
       pedals = record { brake = 0; gas = 0 };
@@ -30,7 +30,7 @@ behind range lead =
 abbrev pub holding : ℕ → Car
 holding now =
     record {
-      settings = record { mode = 1; signs = false };
+      settings = record { mode = 1; signs = false; towing = false };
       key = 2;
       levers = record { updown = 1; foreback = 0; time = 0; base = 500 };
       pedals = record { brake = 0; gas = 0 };

@@ -21,45 +21,50 @@ zero_one n h = go (eqb n 0) refl
     go true e = inl (eqb-true n 0 e)
     go false e = let z = eqb-false n 0 e in inr (omega arith)
 
-module _ (mode signs : ℕ) where
+-- and one that is 0 or 1 passes its test
+flag_passes : (n : ℕ) → (n ≡ 0) ⊎ (n ≡ 1) → ltb 1 n ≡ false
+flag_passes n (inl e) = rw e
+flag_passes n (inr e) = rw e
+
+module _ (mode signs towing : ℕ) where
   -- 17 holds of no permitted settings, and of all others
-  passes : Permitted mode signs → check17 mode signs ≡ false
+  passes : Permitted mode signs towing → check17 mode signs towing ≡ false
   unfolding check17
-  passes p = go p.modes p.flag
+  passes p = go p.modes
     where
-      go : (mode ≡ 1) ⊎ (mode ≡ 2) → (signs ≡ 0) ⊎ (signs ≡ 1) → (not (eqb mode 1) && not (eqb mode 2) || ltb 1 signs) ≡ false
-      go (inl m) (inl s) = rw (m, s)
-      go (inl m) (inr s) = rw (m, s)
-      go (inr m) (inl s) = rw (m, s)
-      go (inr m) (inr s) = rw (m, s)
+      go : (mode ≡ 1) ⊎ (mode ≡ 2) → (not (eqb mode 1) && not (eqb mode 2) || ltb 1 signs || ltb 1 towing) ≡ false
+      go (inl m) = rw (m, flag_passes signs p.sign_flag, flag_passes towing p.towing_flag)
+      go (inr m) = rw (m, flag_passes signs p.sign_flag, flag_passes towing p.towing_flag)
 
-  pub passed : check17 mode signs ≡ false → Permitted mode signs
+  pub passed : check17 mode signs towing ≡ false → Permitted mode signs towing
   unfolding check17
-  passed = go (eqb mode 1) (eqb mode 2) refl refl
+  passed = go (eqb mode 1) (eqb mode 2) (ltb 1 signs) refl refl refl
     where
-      flags : ltb 1 signs ≡ false → (signs ≡ 0) ⊎ (signs ≡ 1)
-      flags h = zero_one signs (ltb-false 1 signs h)
+      flag : (n : ℕ) → ltb 1 n ≡ false → (n ≡ 0) ⊎ (n ≡ 1)
+      flag n h = zero_one n (ltb-false 1 n h)
 
-      go : (p q : Bool) → eqb mode 1 ≡ p → eqb mode 2 ≡ q → (not p && not q || ltb 1 signs) ≡ false → Permitted mode signs
-      go true q e f h = record { modes = inl (eqb-true mode 1 e); flag = flags h }
-      go false true e f h = record { modes = inr (eqb-true mode 2 f); flag = flags h }
-      go false false e f h = absurd (true≢false h)
+      go : (p q r : Bool) → eqb mode 1 ≡ p → eqb mode 2 ≡ q → ltb 1 signs ≡ r → (not p && not q || r || ltb 1 towing) ≡ false → Permitted mode signs towing
+      go true q false e f r h = record { modes = inl (eqb-true mode 1 e); sign_flag = flag signs r; towing_flag = flag towing h }
+      go false true false e f r h = record { modes = inr (eqb-true mode 2 f); sign_flag = flag signs r; towing_flag = flag towing h }
+      go true q true e f r h = absurd (true≢false h)
+      go false true true e f r h = absurd (true≢false h)
+      go false false r e f s h = absurd (true≢false h)
 
   -- permitted settings give the fresh car
-  pub permitted_fresh : Permitted mode signs → fresh_of mode signs ≡ gives (fresh_car (settings_of mode signs))
+  pub permitted_fresh : Permitted mode signs towing → fresh_of mode signs towing ≡ gives (fresh_car (settings_of mode signs towing))
   unfolding fresh_of
   permitted_fresh p = pick_false _ _ _ (passes p)
 
   -- and all else 17
-  pub other_17 : (Permitted mode signs → ⊥) → fresh_of mode signs ≡ refused 17
+  pub other_17 : (Permitted mode signs towing → ⊥) → fresh_of mode signs towing ≡ refused 17
   unfolding fresh_of
-  other_17 n = pick_case (λ (a : Answer Car). a ≡ refused 17) (check17 mode signs) _ _ (λ t. refl) (λ t. absurd (n (passed t)))
+  other_17 n = pick_case (λ (a : Answer Car). a ≡ refused 17) (check17 mode signs towing) _ _ (λ t. refl) (λ t. absurd (n (passed t)))
 
   -- the fresh car of permitted settings is good
-  pub permitted_good : Permitted mode signs → good_of (fresh_car (settings_of mode signs)) ≡ true
+  pub permitted_good : Permitted mode signs towing → good_of (fresh_car (settings_of mode signs towing)) ≡ true
   unfolding settings_of
   permitted_good p = go p.modes
     where
-      go : (mode ≡ 1) ⊎ (mode ≡ 2) → good_of (fresh_car (settings_of mode signs)) ≡ true
+      go : (mode ≡ 1) ⊎ (mode ≡ 2) → good_of (fresh_car (settings_of mode signs towing)) ≡ true
       go (inl m) = fresh_good _ (omega arith) (omega arith)
       go (inr m) = fresh_good _ (omega arith) (omega arith)

@@ -6,27 +6,23 @@ use Rattle.std.specs.Bool.{beq}
 use Rattle.std.proofs.Common.{sym, ◌∙◌, arith}
 use borrow.Author.Tests.{leb-true, eqb-true, eqb-false, le-leb, eq-eqb, ne_eqb}
 use Rattle.kit.specs.Bounds.{desired_ceiling, test_period}
-use Rattle.kit.specs.Pick.{and_l, and_r, and_both, implied, or_else, not_is, or_test, implies_test, not_of_false, not_of_true}
+use Rattle.kit.specs.Pick.{pick_le, le_pick, and_l, and_r, and_both, implied, or_else, not_is, or_test, implies_test, not_of_false, not_of_true}
 use Rattle.event.specs.Words.{permitted_gap}
 use Rattle.desired.specs.Desired.{held}
 use Rattle.car.specs.declared.Car.{Car}
 use Rattle.car.specs.declared.Settings.{Settings}
 use Rattle.car.specs.Car.{ceiling_of, fresh_car}
-use Rattle.car.specs.Good.{positions_of, numbers_of, ranges_of, times_of, rule_a, rule_b, rule_c, rule_d, rule_e, rule_f, lever_held, idle_of, off_of, cruising_of, limiting_of, button_of, tested_of, obeys_of, good_of}
+use Rattle.car.specs.Good.{positions_of, numbers_of, ranges_of, times_of, rule_a, rule_b, rule_c, rule_d, rule_e, rule_f, lever_held, idle_of, off_of, cruising_of, limiting_of, button_of, tested_of, obeys_of, good_at, good_of}
 use Rattle.car.specs.Standing.{Ranges, Off, Cruising, Limiting, Good}
 
 -- the ceiling of D and B
 pub ceiling_le : (s : Settings) → ceiling_of s ≤ desired_ceiling
 unfolding ceiling_of
-ceiling_le s = omega arith
+ceiling_le s = pick_le _ _ _ _ (omega arith) (omega arith)
 
 pub ceiling_low : (s : Settings) → 10 ≤ ceiling_of s
 unfolding ceiling_of
-ceiling_low s = omega arith
-
-pub ceiling_high : (s : Settings) → desired_ceiling ≤ ceiling_of s
-unfolding ceiling_of
-ceiling_high s = omega arith
+ceiling_low s = le_pick _ _ _ _ (omega arith) (omega arith)
 
 -- ---- the ranges
 some_eqb : (n : ℕ) → 1 ≤ n → eqb n 0 ≡ false
@@ -35,16 +31,16 @@ some_eqb n h = ne_eqb n 0 (omega arith)
 eqb_some : (n : ℕ) → eqb n 0 ≡ false → 1 ≤ n
 eqb_some n h = let e = eqb-false n 0 h in omega arith
 
-pub ranges : (c : Car) → ranges_of c ≡ true → Ranges c
+pub ranges : (c : Car) → ranges_of (ceiling_of c.settings) c ≡ true → Ranges c
 unfolding ranges_of positions_of numbers_of
 ranges c h = search (and_l, and_r, leb-true, or_else, some_eqb) depth 24 fits 4000
 
-pub ranges_test : (c : Car) → Ranges c → ranges_of c ≡ true
+pub ranges_test : (c : Car) → Ranges c → ranges_of (ceiling_of c.settings) c ≡ true
 unfolding ranges_of positions_of numbers_of
 ranges_test c r = search (and_both, le-leb, or_test, eqb_some, r.manual_low) depth 24 fits 4000
 
 pub good_ranges : (c : Car) → good_of c ≡ true → Ranges c
-unfolding good_of
+unfolding good_of good_at
 good_ranges c h = ranges c (and_l _ _ h)
 
 -- ---- two flags, one the other's negation
@@ -166,17 +162,17 @@ module _ (c : Car) where
   Hold : Type 0
   Hold = c.cruise.desired ≡ held (ceiling_of c.settings) c.levers.updown c.levers.base (c.now - c.levers.time)
 
-  hold : rule_f c ≡ true → lever_held c ≡ true → Hold
+  hold : rule_f (ceiling_of c.settings) c ≡ true → lever_held c ≡ true → Hold
   unfolding rule_f Hold
   hold h e = eqb-true _ _ (implied (lever_held c) _ h e)
 
-  f_test : (lever_held c ≡ true → Hold) → rule_f c ≡ true
+  f_test : (lever_held c ≡ true → Hold) → rule_f (ceiling_of c.settings) c ≡ true
   unfolding rule_f Hold
   f_test p = implies_test (lever_held c) _ (λ t. eq-eqb _ _ (p t))
 
 -- a car that passes the test obeys each rule, and one that obeys each rule passes it
 pub good : (c : Car) → good_of c ≡ true → Good c
-unfolding good_of obeys_of Hold
+unfolding good_of good_at obeys_of Hold
 good c h =
     let r = good_ranges c h in
     let t : times_of c ≡ true = search (and_l, and_r) depth 12 in
@@ -185,7 +181,7 @@ good c h =
     let e : rule_c c ≡ true = search (and_l, and_r) depth 12 in
     let d : rule_d c ≡ true = search (and_l, and_r) depth 12 in
     let f : rule_e c ≡ true = search (and_l, and_r) depth 12 in
-    let g : rule_f c ≡ true = search (and_l, and_r) depth 12 in
+    let g : rule_f (ceiling_of c.settings) c ≡ true = search (and_l, and_r) depth 12 in
     record {
       ranges = r;
       lever_idle = lever_idle c t;
@@ -203,7 +199,7 @@ good c h =
     }
 
 pub good_test : (c : Car) → Good c → good_of c ≡ true
-unfolding good_of obeys_of Hold
+unfolding good_of good_at obeys_of Hold
 good_test c g =
     let r = ranges_test c g.ranges in
     let t = times_test c g.lever_idle g.lever_time in
@@ -217,5 +213,5 @@ good_test c g =
 
 -- ---- a fresh car is good
 pub fresh_good : (s : Settings) → 1 ≤ s.mode → s.mode ≤ 2 → good_of (fresh_car s) ≡ true
-unfolding good_of ranges_of positions_of numbers_of permitted_gap ceiling_of fresh_car obeys_of times_of rule_a rule_b rule_c rule_d rule_e rule_f
-fresh_good s p q = rw (le-leb 1 s.mode p, le-leb s.mode 2 q)
+unfolding good_of good_at ranges_of positions_of numbers_of permitted_gap fresh_car obeys_of times_of rule_a rule_b rule_c rule_d rule_e rule_f
+fresh_good s p q = rw (le-leb 1 s.mode p, le-leb s.mode 2 q, le-leb 0 (ceiling_of s) (omega arith))

@@ -8,10 +8,10 @@ use Prim.Native.Nat.{ℕ, ◌+◌, ◌-◌, ◌≤◌, ◌<◌, min}
 use Rattle.std.proofs.Math.Dec.{eqb, leb, ltb}
 use native.Mathlib.Omega.{arith}
 use borrow.Author.Tests.{leb-true, leb-false, ltb-true, ltb-false, eqb-true, eqb-false, eq-eqb, ne_eqb}
-use Rattle.kit.specs.Bounds.{pedal_ceiling, speed_ceiling, desired_ceiling, lesson_length, test_period}
+use Rattle.kit.specs.Bounds.{pedal_ceiling, speed_ceiling, lesson_length, test_period}
 use Rattle.kit.specs.Pick.{pick_true, pick_false, pick_case, pick_le, le_pick, and_left, and_l, and_r, not_is, and_right, and_next, not_of_true, not_of_false, no}
 use Rattle.event.specs.Words.{permitted_gap}
-use Rattle.desired.specs.Desired.{held, manual_after, sign_desired}
+use Rattle.desired.specs.Desired.{held, manual_after, sign_gives, sign_desired}
 use Rattle.desired.proofs.DesiredLaws.{stepped_le, stepped_pos, long_held_le, long_held_pos, held_early, held_late, held_start}
 use Rattle.motion.specs.Acceleration.{speeding}
 use Rattle.motion.proofs.AccelerationLaws.{Banded, change_none}
@@ -22,7 +22,7 @@ use Rattle.car.specs.declared.RangeRadar.{RangeRadar}
 use Rattle.car.specs.Acceleration.{acceleration_of}
 use Rattle.car.specs.Car.{ceiling_of, with_levers, with_pedals, with_limiter, with_cruise, with_radar, with_gap}
 use Rattle.car.specs.Good.{lever_held}
-use Rattle.car.proofs.GoodLaws.{ceiling_le, ceiling_low, ceiling_high}
+use Rattle.car.proofs.GoodLaws.{ceiling_low}
 use Rattle.car.specs.Rules.{key_radar, key_turned, lever_desired, while_held, up_down_moved, with_foreback, engages, start_desired, engaged, forward, cruise_off, backward, fore_back_moved, sign_acts, sign_after, sign_passed, reading_taken, test_due, range_after, radar_tested, radar_after, hold_desired, tick_desired, holds_desired, tick_speed, ticked}
 use Rattle.car.specs.Standing.{Off, Good}
 
@@ -124,9 +124,9 @@ module _ (c : Car) (g : Good c) where
   manual_after_low d =
       pick_case (λ (n : ℕ). 1 ≤ n → 1200 ≤ n) (leb 1200 d) _ _ (λ t _. leb-true _ _ t) (λ _. g.ranges.manual_low)
 
-  manual_after_le : (d : ℕ) → d ≤ ceiling_of c.settings → manual_after d c.cruise.manual ≤ desired_ceiling
+  manual_after_le : (d : ℕ) → d ≤ ceiling_of c.settings → manual_after d c.cruise.manual ≤ ceiling_of c.settings
   unfolding manual_after
-  manual_after_le d h = let t = ceiling_le c.settings in pick_le _ _ _ _ (omega arith) g.ranges.manual
+  manual_after_le d h = pick_le _ _ _ _ h g.ranges.manual
 
   manual_after_off : Off c → (d : ℕ) → d ≡ 0 → manual_after d c.cruise.manual ≡ 0
   unfolding manual_after
@@ -343,30 +343,30 @@ module _ (c : Car) (g : Good c) where
       }
 
   -- ---- a sign: cruise is on where it acts
-  sign_desired_pos : (s d e : ℕ) → 1 ≤ d → 1 ≤ sign_desired s d e
-  unfolding sign_desired
-  sign_desired_pos s d e low =
-      pick_case (λ (n : ℕ). 1 ≤ n) (ltb s 200) _ _ (λ _. low)
-      (λ t. let h = ltb-false s 200 t in le_pick _ _ _ _ (omega arith)
+  sign_gives_pos : (s d e : ℕ) → 200 ≤ s → 1 ≤ d → 1 ≤ sign_gives s d e
+  unfolding sign_gives
+  sign_gives_pos s d e h low =
+      le_pick _ _ _ _ (omega arith)
       (le_pick _ _ _ _ (omega arith)
-      (pick_case (λ (n : ℕ). 1 ≤ n) (ltb 0 e) _ _ (λ u. let k = ltb-true 0 e u in omega arith) (λ _. low))))
+      (pick_case (λ (n : ℕ). 1 ≤ n) (ltb 0 e) _ _ (λ u. let k = ltb-true 0 e u in omega arith) (λ _. low)))
 
-  sign_desired_le : (s d e k : ℕ) → d ≤ k → e ≤ k → 1300 ≤ k → sign_desired s d e ≤ k
+  sign_desired_pos : (top s d e : ℕ) → 10 ≤ top → 1 ≤ d → 1 ≤ sign_desired top s d e
   unfolding sign_desired
-  sign_desired_le s d e k hd he hk =
-      pick_le _ _ _ _ hd
-      (pick_case (λ (n : ℕ). n ≤ k) (leb s 1300) _ _ (λ t. let h = leb-true s 1300 t in omega arith)
-      (λ _. pick_le _ _ _ _ (omega arith) (pick_le _ _ _ _ he hd)))
+  sign_desired_pos top s d e l low =
+      pick_case (λ (n : ℕ). 1 ≤ n) (ltb s 200) _ _ (λ _. low)
+      (λ t. let k = sign_gives_pos s d e (ltb-false s 200 t) low in omega arith)
+
+  sign_desired_le : (top s d e : ℕ) → d ≤ top → sign_desired top s d e ≤ top
+  unfolding sign_desired
+  sign_desired_le top s d e h = pick_le _ _ _ _ h (omega arith)
 
   sign_after_le : (s : ℕ) → sign_after c s ≤ ceiling_of c.settings
   unfolding sign_after
-  sign_after_le s =
-      let t = ceiling_high c.settings in
-      pick_le _ _ _ _ (sign_desired_le s _ _ _ g.ranges.desired (omega (arith, g.ranges.manual)) (omega arith)) g.ranges.desired
+  sign_after_le s = pick_le _ _ _ _ (sign_desired_le _ s _ _ g.ranges.desired) g.ranges.desired
 
   sign_after_pos : (s : ℕ) → c.cruise.on ≡ true → 1 ≤ sign_after c s
   unfolding sign_after
-  sign_after_pos s e = let k = g.cruise_on e in le_pick _ _ _ _ (sign_desired_pos s _ _ k.low) k.low
+  sign_after_pos s e = let k = g.cruise_on e in le_pick _ _ _ _ (sign_desired_pos _ s _ _ (ceiling_low c.settings) k.low) k.low
 
   -- with the lever held no sign acts
   sign_waits : lever_held c ≡ true → sign_acts c ≡ true → ⊥

@@ -2,7 +2,7 @@
 -- Assumes nothing.
 use Rattle.std.specs.Prelude.{Bool, false, ◌&&◌, ◌||◌, not, ◌⊎◌, ◌≡◌, ℕ, eqb, ltb}
 use Rattle.kit.specs.Answer.{Answer, gives, refused}
-use Rattle.kit.specs.Bounds.{desired_ceiling}
+use Rattle.kit.specs.Bounds.{desired_ceiling, towing_ceiling}
 use Rattle.kit.specs.Pick.{pick}
 use Rattle.car.specs.declared.Settings.{Settings}
 use Rattle.car.specs.declared.Levers.{Levers}
@@ -28,24 +28,25 @@ fresh_car s =
       now = 0;
     }
 
--- "Settings: mode 1 (normal cruise) or 2 (adaptive); signs 0 or 1"
-pub record Permitted (mode signs : ℕ) : Type 0 where
+-- "Settings: mode 1 (normal cruise) or 2 (adaptive); signs 0 or 1"; and towing, 0 or 1 (document 02, §11)
+pub record Permitted (mode signs towing : ℕ) : Type 0 where
   pub modes : (mode ≡ 1) ⊎ (mode ≡ 2)
-  pub flag : (signs ≡ 0) ⊎ (signs ≡ 1)
+  pub sign_flag : (signs ≡ 0) ⊎ (signs ≡ 1)
+  pub towing_flag : (towing ≡ 0) ⊎ (towing ≡ 1)
 
-unfoldable pub settings_of : ℕ → ℕ → Settings
-settings_of mode signs = record { mode = mode; signs = eqb signs 1 }
+unfoldable pub settings_of : ℕ → ℕ → ℕ → Settings
+settings_of mode signs towing = record { mode = mode; signs = eqb signs 1; towing = eqb towing 1 }
 
 -- 17: settings outside their values (no car)
-unfoldable pub check17 : ℕ → ℕ → Bool
-check17 mode signs = not (eqb mode 1) && not (eqb mode 2) || ltb 1 signs
+unfoldable pub check17 : ℕ → ℕ → ℕ → Bool
+check17 mode signs towing = not (eqb mode 1) && not (eqb mode 2) || ltb 1 signs || ltb 1 towing
 
-unfoldable pub fresh_of : ℕ → ℕ → Answer Car
-fresh_of mode signs = pick (check17 mode signs) (refused 17) (gives (fresh_car (settings_of mode signs)))
+unfoldable pub fresh_of : ℕ → ℕ → ℕ → Answer Car
+fresh_of mode signs towing = pick (check17 mode signs towing) (refused 17) (gives (fresh_car (settings_of mode signs towing)))
 
--- the ceiling of D and B
+-- the ceiling of D and B: "With it the ceiling 2000 on D and B is 1000" (document 02, §11)
 unfoldable pub ceiling_of : Settings → ℕ
-ceiling_of s = desired_ceiling
+ceiling_of s = pick s.towing towing_ceiling desired_ceiling
 
 -- ---- the same car with one part changed
 unfoldable pub with_levers : Car → Levers → Car

@@ -3,13 +3,14 @@
 -- Assumes nothing.
 use Rattle.std.specs.Prelude.{Bool, ◌&&◌, ◌||◌, not, ℕ, ◌+◌, ◌-◌, eqb, leb, ltb}
 use Rattle.std.specs.Bool.{beq}
-use Rattle.kit.specs.Bounds.{pedal_ceiling, speed_ceiling, desired_ceiling, lesson_length, test_period}
+use Rattle.kit.specs.Bounds.{pedal_ceiling, speed_ceiling, lesson_length, test_period}
 use Rattle.event.specs.Words.{permitted_gap}
 use Rattle.desired.specs.Desired.{held}
 use Rattle.car.specs.declared.Car.{Car}
 use Rattle.car.specs.Car.{ceiling_of}
 
--- the ranges of what the hands and feet hold, and of the numbers; `top` is the ceiling of D and B
+-- the ranges of what the hands and feet hold, and of the numbers; `top` is the ceiling of D and B. "E .. 0 or 1200..2000": to the ceiling as well, so
+-- that towing, where it is 1000, E is 0
 unfoldable pub positions_of : Car → Bool
 positions_of c =
     leb 1 c.settings.mode && leb c.settings.mode 2
@@ -24,7 +25,7 @@ numbers_of top c =
     leb c.speed speed_ceiling
     && leb c.limiter.limit speed_ceiling
     && leb c.cruise.desired top
-    && (eqb c.cruise.manual 0 || leb 1200 c.cruise.manual) && leb c.cruise.manual desired_ceiling
+    && (eqb c.cruise.manual 0 || leb 1200 c.cruise.manual) && leb c.cruise.manual top
     && leb c.levers.base top
     && leb c.radar.range 255
     && leb c.radar.lead speed_ceiling
@@ -32,8 +33,8 @@ numbers_of top c =
     && leb c.now lesson_length
     && leb c.radar.tested lesson_length
 
-unfoldable pub ranges_of : Car → Bool
-ranges_of c = positions_of c && numbers_of (ceiling_of c.settings) c && permitted_gap c.gap
+unfoldable pub ranges_of : ℕ → Car → Bool
+ranges_of top c = positions_of c && numbers_of top c && permitted_gap c.gap
 
 -- "C = 1 and L is out"
 abbrev pub lever_held : Car → Bool
@@ -85,13 +86,15 @@ unfoldable pub rule_e : Car → Bool
 rule_e c = beq (eqb c.radar.range 255) (not c.radar.ready) && (not (eqb c.key 2) || tested_of c)
 
 -- (f) as far as one car shows it: "D's formula with h = now − T"
-unfoldable pub rule_f : Car → Bool
-rule_f c =
-    not (lever_held c)
-    || eqb c.cruise.desired (held (ceiling_of c.settings) c.levers.updown c.levers.base (c.now - c.levers.time))
+unfoldable pub rule_f : ℕ → Car → Bool
+rule_f top c = not (lever_held c) || eqb c.cruise.desired (held top c.levers.updown c.levers.base (c.now - c.levers.time))
 
-unfoldable pub obeys_of : Car → Bool
-obeys_of c = times_of c && rule_a c && rule_b c && rule_c c && rule_d c && rule_e c && rule_f c
+unfoldable pub obeys_of : ℕ → Car → Bool
+obeys_of top c = times_of c && rule_a c && rule_b c && rule_c c && rule_d c && rule_e c && rule_f top c
+
+-- the whole test, over the ceiling
+unfoldable pub good_at : ℕ → Car → Bool
+good_at top c = ranges_of top c && obeys_of top c
 
 unfoldable pub good_of : Car → Bool
-good_of c = ranges_of c && obeys_of c
+good_of c = good_at (ceiling_of c.settings) c

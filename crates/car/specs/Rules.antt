@@ -32,7 +32,8 @@ key_turned c position ready =
       now = c.now;
     }
 
--- ---- L, "moved to 1..4: C = 0 gives D = min(2000, v). C = 1 gives up5 ..; up7 ..; down5 ..; down7 .. To neutral: D kept"
+-- ---- L, "moved to 1..4: C = 0 gives D = min(2000, v). C = 1 gives up5 ..; up7 ..; down5 ..; down7 .. To neutral: D kept". Here, in forward and in
+-- the hold 2000 is the ceiling, which is 1000 towing (document 02, §11)
 unfoldable pub lever_desired : Car → ℕ → ℕ
 lever_desired c x =
     pick (eqb x 0) c.cruise.desired
@@ -120,7 +121,7 @@ sign_acts c =
 
 -- D by a sign that acts; else D stays
 unfoldable pub sign_after : Car → ℕ → ℕ
-sign_after c s = pick (sign_acts c) (sign_desired s c.cruise.desired c.cruise.manual) c.cruise.desired
+sign_after c s = pick (sign_acts c) (sign_desired (ceiling_of c.settings) s c.cruise.desired c.cruise.manual) c.cruise.desired
 
 unfoldable pub sign_passed : Car → ℕ → Car
 sign_passed c s = with_cruise c (record { on = c.cruise.on; desired = sign_after c s; manual = c.cruise.manual })

@@ -1,14 +1,14 @@
 -- The standing rules as named facts: document 01, "Standing rules", and the ranges of "The car and a fresh one".
 -- Assumes nothing.
 use Rattle.std.specs.Prelude.{Bool, true, false, ◌≡◌, ℕ, ◌+◌, ◌-◌, ◌≤◌, ◌<◌}
-use Rattle.kit.specs.Bounds.{pedal_ceiling, speed_ceiling, desired_ceiling, lesson_length, test_period}
+use Rattle.kit.specs.Bounds.{pedal_ceiling, speed_ceiling, lesson_length, test_period}
 use Rattle.event.specs.Words.{permitted_gap}
 use Rattle.desired.specs.Desired.{held}
 use Rattle.car.specs.declared.Car.{Car}
 use Rattle.car.specs.Car.{ceiling_of}
 use Rattle.car.specs.Good.{lever_held}
 
--- the fields' ranges
+-- the fields' ranges; towing reads 1000 for 2000 (document 02, §11), and E, which is 0 or 1200 and more, is 0 then
 pub record Ranges (c : Car) : Type 0 where
   pub mode_low : 1 ≤ c.settings.mode
   pub mode : c.settings.mode ≤ 2
@@ -21,7 +21,7 @@ pub record Ranges (c : Car) : Type 0 where
   pub limit : c.limiter.limit ≤ speed_ceiling
   pub desired : c.cruise.desired ≤ ceiling_of c.settings
   pub manual_low : 1 ≤ c.cruise.manual → 1200 ≤ c.cruise.manual
-  pub manual : c.cruise.manual ≤ desired_ceiling
+  pub manual : c.cruise.manual ≤ ceiling_of c.settings
   pub base : c.levers.base ≤ ceiling_of c.settings
   pub range : c.radar.range ≤ 255
   pub lead : c.radar.lead ≤ speed_ceiling
@@ -74,7 +74,7 @@ pub record Good (c : Car) : Type 0 where
   pub off : (c.key ≡ 2 → ⊥) → Off c
   -- (b) "L or M is neutral"
   pub one_lever : 1 ≤ c.levers.updown → c.levers.foreback ≡ 0
-  -- (c) "C = 1: b = 0, M not backward, 1 ≤ D ≤ 2000"
+  -- (c) "C = 1: b = 0, M not backward, 1 ≤ D ≤ 2000", or 1000
   pub cruise_on : c.cruise.on ≡ true → Cruising c.pedals.brake c.levers.foreback c.cruise.desired (ceiling_of c.settings)
   -- (d) "S = 1: H = 1, g ≤ 90, v ≤ Z"
   pub limiter_on : c.limiter.on ≡ true → Limiting c.limiter.button c.pedals.gas c.speed c.limiter.limit

@@ -1,6 +1,6 @@
 // The good-car test: a car that an accepted record gives (document 01, "Standing rules" and "The record").
 ghost use Rattle.std.specs.Prelude.{◌≡◌};
-ghost use Rattle.car.specs.Good.{positions_of, numbers_of, ranges_of, times_of, off_of, rule_a, rule_b, rule_c, rule_d, rule_e, rule_f, obeys_of, good_of};
+ghost use Rattle.car.specs.Good.{positions_of, numbers_of, ranges_of, times_of, off_of, rule_a, rule_b, rule_c, rule_d, rule_e, rule_f, obeys_of, good_at, good_of};
 
 use crate::{Car, ceiling};
 use desired::held;
@@ -27,7 +27,7 @@ impl Car {
             & (self.limiter.limit <= Car::SPEED_CEILING)
             & (self.cruise.desired <= top)
             & ((self.cruise.manual == 0) | (1200 <= self.cruise.manual))
-            & (self.cruise.manual <= Car::DESIRED_CEILING)
+            & (self.cruise.manual <= top)
             & (self.levers.base <= top)
             & (self.radar.range <= 255)
             & (self.radar.lead <= Car::SPEED_CEILING)
@@ -37,10 +37,10 @@ impl Car {
     }
 
     #[tactic(auto, using(kit::specs::Pick::picks), unfolding(crate::specs::Good::ranges_of))]
-    fn ranges(self) -> bool
-        ensures { result ≡ ranges_of self }
+    fn ranges(self, top: u32) -> bool
+        ensures { result ≡ ranges_of top self }
     {
-        self.positions() & self.numbers(ceiling(self.settings)) & event::permitted_gap(self.gap)
+        self.positions() & self.numbers(top) & event::permitted_gap(self.gap)
     }
 
     // The rule on T and B, and T ≤ now.
@@ -116,25 +116,19 @@ impl Car {
     }
 
     #[tactic(auto, using(kit::specs::Pick::picks), unfolding(crate::specs::Good::rule_f))]
-    fn rule_f(self) -> bool
-        ensures { result ≡ rule_f self }
+    fn rule_f(self, top: u32) -> bool
+        ensures { result ≡ rule_f top self }
     {
         if !(self.cruise.on & (self.levers.updown != 0)) {
             return true;
         }
         let h = self.now.saturating_sub(self.levers.time);
-        let d = held(
-            ceiling(self.settings),
-            self.levers.updown,
-            self.levers.base,
-            h,
-        );
-        self.cruise.desired == d
+        self.cruise.desired == held(top, self.levers.updown, self.levers.base, h)
     }
 
     #[tactic(auto, using(kit::specs::Pick::picks), unfolding(crate::specs::Good::obeys_of))]
-    fn obeys(self) -> bool
-        ensures { result ≡ obeys_of self }
+    fn obeys(self, top: u32) -> bool
+        ensures { result ≡ obeys_of top self }
     {
         self.times()
             & self.rule_a()
@@ -142,13 +136,20 @@ impl Car {
             & self.rule_c()
             & self.rule_d()
             & self.rule_e()
-            & self.rule_f()
+            & self.rule_f(top)
+    }
+
+    #[tactic(auto, using(kit::specs::Pick::picks), unfolding(crate::specs::Good::good_at))]
+    fn good_at(self, top: u32) -> bool
+        ensures { result ≡ good_at top self }
+    {
+        self.ranges(top) && self.obeys(top)
     }
 
     #[tactic(auto, using(kit::specs::Pick::picks), unfolding(crate::specs::Good::good_of))]
     pub fn good(self) -> bool
         ensures { result ≡ good_of self }
     {
-        self.ranges() && self.obeys()
+        self.good_at(ceiling(self.settings))
     }
 }

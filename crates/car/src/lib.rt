@@ -26,6 +26,7 @@ use event::Refusal;
 pub struct Settings {
     pub mode: u32, // 1 normal cruise, 2 adaptive
     pub signs: bool,
+    pub towing: bool,
 }
 
 #[derive(Clone, Copy)]
@@ -86,21 +87,24 @@ impl Car {
 
     pub const DESIRED_CEILING: u32 = 2000;
 
+    pub const TOWING_CEILING: u32 = 1000;
+
     pub const TEST_PERIOD: u32 = 600;
 
     pub const LESSON_LENGTH: u32 = checks::LESSON_LENGTH;
 
-    // A fresh car, or the refusal of its settings, which are any two numbers.
+    // A fresh car, or the refusal of its settings, which are any three numbers.
     #[tactic(auto, using(kit::specs::Pick::picks), unfolding(crate::specs::Car::fresh_of, crate::specs::Car::check17, crate::specs::Car::settings_of))]
-    pub fn fresh(mode: u32, signs: u32) -> Result<Car, Refusal>
-        ensures { answer result ≡ fresh_of mode signs }
+    pub fn fresh(mode: u32, signs: u32, towing: u32) -> Result<Car, Refusal>
+        ensures { answer result ≡ fresh_of mode signs towing }
     {
-        if ((mode != 1) & (mode != 2)) | (signs > 1) {
+        if ((mode != 1) & (mode != 2)) | (signs > 1) | (towing > 1) {
             return Err(Refusal::Settings);
         }
         Ok(first(Settings {
             mode: mode,
             signs: signs == 1,
+            towing: towing == 1,
         }))
     }
 }
@@ -147,5 +151,8 @@ fn first(settings: Settings) -> Car
 pub(crate) fn ceiling(settings: Settings) -> u32
     ensures { result ≡ ceiling_of settings }
 {
+    if settings.towing {
+        return Car::TOWING_CEILING;
+    }
     Car::DESIRED_CEILING
 }

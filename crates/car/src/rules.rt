@@ -222,7 +222,8 @@ impl Car {
         ensures { result ≡ sign_after self sign }
     {
         if self.sign_acts() {
-            return sign_desired(sign, self.cruise.desired, self.cruise.manual);
+            let top = ceiling(self.settings);
+            return sign_desired(top, sign, self.cruise.desired, self.cruise.manual);
         }
         self.cruise.desired
     }

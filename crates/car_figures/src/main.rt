@@ -1,4 +1,4 @@
-// A line for each pair of settings, 0 to 3 and 0 to 2: the refusal of Car::fresh. Then for each car of standard input, 23 words in the
+// A line for each three settings, 0 to 3, 0 to 2 and 0 to 2: the refusal of Car::fresh. Then for each car of standard input, 24 words in the
 // order of document 01's fields, a line: refusal, speed, desired, acceleration, visual, acoustic, secure distance.
 #![tactic(auto)]
 
@@ -25,7 +25,7 @@ fn line(page: &mut Page<'_>, car: Car) {
 }
 
 fn lines(page: &mut Page<'_>, words: &[u32]) {
-    for fields in words.chunks_exact(23) {
+    for fields in words.chunks_exact(24) {
         line(page, tester::car_at(fields, 0));
     }
 }
@@ -33,7 +33,9 @@ fn lines(page: &mut Page<'_>, words: &[u32]) {
 fn fresh_lines(page: &mut Page<'_>) {
     for mode in 0..4 {
         for signs in 0..3 {
-            page.last(number(&Car::fresh(mode, signs)));
+            for towing in 0..3 {
+                page.last(number(&Car::fresh(mode, signs, towing)));
+            }
         }
     }
 }

@@ -14,7 +14,7 @@ const TEXTS: Texts<'static> = Texts {
     help: b"usage: clean [FILE]
 Takes the words that the car refuses out of an exercise.
 FILE, or standard input, holds 32-bit words, lowest byte first: a settings word
-(D0000000 + mode 1 or 2, + 4 for road signs), then event words.
+(D0000000 + mode 1 or 2, + 4 for road signs, + 8 for towing), then event words.
 Written is a file of the same kind: the settings word, then the accepted words.
 'lesson' refuses none of them and ends in the same figures.
 A file that does not start with a settings word: nothing is written, and

@@ -1,5 +1,5 @@
-// Makes clean copies (document 02, §2). Standard input (words, little-endian) holds cases: 1 mode signs room count words, a copy from settings
-// into a buffer of that room, by the call and by the library's function; 2, 23 fields, room count words, a copy from a car as it stands;
+// Makes clean copies (document 02, §2). Standard input (words, little-endian) holds cases: 1 mode signs towing room count words, a copy from settings
+// into a buffer of that room, by the call and by the library's function; 2, 24 fields, room count words, a copy from a car as it stands;
 // 3 cut length words, the clean file of an exercise file of so many bytes, handed over in pieces of that cut; 0 ends.
 // Prints for each copy its refusal and the number written, then its buffer, and for a copy from a car its fields afterwards; for a clean
 // file its refusal and the number of its words, then the words.
@@ -36,8 +36,9 @@ fn copy_lines(page: &mut Page<'_>, refusal: u32, written: usize, buffer: &[u32])
 }
 
 // Words and buffer stand apart, as the calls take them.
-fn by_call(page: &mut Page<'_>, mode: u32, signs: u32, words: &[u32], buffer: &mut [u32]) {
-    let copied = copy::of_lesson(mode, signs, words, buffer);
+fn by_call(page: &mut Page<'_>, settings: [u32; 3], words: &[u32], buffer: &mut [u32]) {
+    let [mode, signs, towing] = settings;
+    let copied = copy::of_lesson(mode, signs, towing, words, buffer);
     let refusal = number(&copied);
     copy_lines(page, refusal, copied.unwrap_or(0), buffer);
 }
@@ -68,19 +69,20 @@ fn lesson<'a>(words: &'a mut [u32; 3075], input: &mut Reader<'_>) -> &'a [u32] {
 }
 
 fn settings_case(input: &mut Reader<'_>, page: &mut Page<'_>) {
-    let [mode, signs] = input.take::<2>();
+    let settings = input.take::<3>();
     let room = input.size(MOST);
     let mut array = [0; 3075];
     let words = lesson(&mut array, input);
     let mut buffer = [UNUSED; MOST];
-    by_call(page, mode, signs, words, &mut buffer[..room]);
+    by_call(page, settings, words, &mut buffer[..room]);
     let mut other = [UNUSED; MOST];
-    let settings = tester::settings_word(mode, signs);
-    by_library(page, settings, words, &mut other[..room]);
+    let [mode, signs, towing] = settings;
+    let word = tester::settings_word(mode, signs, towing);
+    by_library(page, word, words, &mut other[..room]);
 }
 
 fn car_case(input: &mut Reader<'_>, page: &mut Page<'_>) {
-    let car = tester::car_at(&input.take::<23>(), 0);
+    let car = tester::car_at(&input.take::<24>(), 0);
     let room = input.size(MOST);
     let mut array = [0; 3075];
     let words = lesson(&mut array, input);

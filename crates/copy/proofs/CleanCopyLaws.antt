@@ -34,26 +34,26 @@ is_copy c ws = record {
   count = accepted_count c ws;
 }
 
-module _ (mode signs : ℕ) (p : Permitted mode signs) where
+module _ (mode signs towing : ℕ) (p : Permitted mode signs towing) where
   abbrev c : Car
-  c = fresh_car (settings_of mode signs)
+  c = fresh_car (settings_of mode signs towing)
 
   module _ (ws buffer : List ℕ) where
-    does_fit : accepted_of c ws ≤ length buffer → (copy_of mode signs ws buffer ≡ written c ws) × (copy_buffer mode signs ws buffer ≡ copied_into c ws buffer)
+    does_fit : accepted_of c ws ≤ length buffer → (copy_of mode signs towing ws buffer ≡ written c ws) × (copy_buffer mode signs towing ws buffer ≡ copied_into c ws buffer)
     unfolding copy_of copy_buffer started_copy started_buffer too_short
-    does_fit h = rw (permitted_fresh mode signs p) (pick_false _ _ _ room, pick_false _ _ _ room)
+    does_fit h = rw (permitted_fresh mode signs towing p) (pick_false _ _ _ room, pick_false _ _ _ room)
       where
         room : too_short c ws buffer ≡ false
         room = le-ltb (length buffer) (length (accepted_words c ws)) (omega (arith, accepted_count c ws))
 
-    no_fit : length buffer < accepted_of c ws → (copy_of mode signs ws buffer ≡ unwritten 19) × (copy_buffer mode signs ws buffer ≡ buffer)
+    no_fit : length buffer < accepted_of c ws → (copy_of mode signs towing ws buffer ≡ unwritten 19) × (copy_buffer mode signs towing ws buffer ≡ buffer)
     unfolding copy_of copy_buffer started_copy started_buffer too_short
-    no_fit h = rw (permitted_fresh mode signs p) (pick_true _ _ _ room, pick_true _ _ _ room)
+    no_fit h = rw (permitted_fresh mode signs towing p) (pick_true _ _ _ room, pick_true _ _ _ room)
       where
         room : too_short c ws buffer ≡ true
         room = lt-ltb (length buffer) (length (accepted_words c ws)) (omega (arith, accepted_count c ws))
 
-    stands : accepted_of c ws ≤ length buffer → copy_in mode signs ws buffer ≡ accepted_words c ws
+    stands : accepted_of c ws ≤ length buffer → copy_in mode signs towing ws buffer ≡ accepted_words c ws
     unfolding written copied_into
     stands h = let f = does_fit h in rw (f.0, f.1) (take-append_seam (accepted_words c ws) _)
 
@@ -61,14 +61,14 @@ module _ (mode signs : ℕ) (p : Permitted mode signs) where
     fits_again : accepted_of c (accepted_words c ws) ≤ length other
     fits_again = omega (arith, accepted_count c ws, accepted_count c (accepted_words c ws), ap length (accepted_again c ws))
 
-    number_again : copy_of mode signs (copy_in mode signs ws buffer) other ≡ copy_of mode signs ws buffer
+    number_again : copy_of mode signs towing (copy_in mode signs towing ws buffer) other ≡ copy_of mode signs towing ws buffer
     unfolding written
     number_again = rw (stands ws buffer h, (does_fit (accepted_words c ws) other fits_again).0, (does_fit ws buffer h).0, accepted_again c ws)
 
-    words_again : copy_in mode signs (copy_in mode signs ws buffer) other ≡ copy_in mode signs ws buffer
+    words_again : copy_in mode signs towing (copy_in mode signs towing ws buffer) other ≡ copy_in mode signs towing ws buffer
     words_again = rw (stands ws buffer h) (stands (accepted_words c ws) other fits_again ∙ accepted_again c ws)
 
-  pub clean_copy : (ws : List ℕ) → CleanCopy mode signs (fresh_car (settings_of mode signs)) ws
+  pub clean_copy : (ws : List ℕ) → CleanCopy mode signs towing (fresh_car (settings_of mode signs towing)) ws
   unfolding written unwritten copied_into
   clean_copy ws = record {
     number = λ buffer h. (does_fit ws buffer h).0 ∙ rw (accepted_count c ws);
@@ -81,7 +81,7 @@ module _ (mode signs : ℕ) (p : Permitted mode signs) where
   }
 
 -- "bad settings are looked at before that", whatever the buffer's length
-pub bad_settings : (mode signs : ℕ) → (Permitted mode signs → ⊥) → (ws buffer : List ℕ)
-    → (copy_of mode signs ws buffer ≡ unwritten 17) × (copy_buffer mode signs ws buffer ≡ buffer)
+pub bad_settings : (mode signs towing : ℕ) → (Permitted mode signs towing → ⊥) → (ws buffer : List ℕ)
+    → (copy_of mode signs towing ws buffer ≡ unwritten 17) × (copy_buffer mode signs towing ws buffer ≡ buffer)
 unfolding copy_of copy_buffer started_copy started_buffer
-bad_settings mode signs n ws buffer = let e = other_17 mode signs n in (rw e, rw e)
+bad_settings mode signs towing n ws buffer = let e = other_17 mode signs towing n in (rw e, rw e)

@@ -14,8 +14,8 @@ pub data Sub : List ℕ → List ℕ → Type 0 where
   left : {us ws : List ℕ} (w : ℕ) → Sub us ws → Sub us (w ∷ ws)
 
 -- the copy of ws that a call left at the start of a buffer: as many words as it says it wrote
-abbrev pub copy_in : ℕ → ℕ → List ℕ → List ℕ → List ℕ
-copy_in mode signs ws buffer = take (copy_of mode signs ws buffer).written (copy_buffer mode signs ws buffer)
+abbrev pub copy_in : ℕ → ℕ → ℕ → List ℕ → List ℕ → List ℕ
+copy_in mode signs towing ws buffer = take (copy_of mode signs towing ws buffer).written (copy_buffer mode signs towing ws buffer)
 
 -- `copy` is the copy of ws from the car c
 pub record IsCopy (c : Car) (ws copy : List ℕ) : Type 0 where
@@ -30,17 +30,17 @@ pub record IsCopy (c : Car) (ws copy : List ℕ) : Type 0 where
   pub count : length copy ≡ accepted_of c ws
 
 -- of the settings whose fresh car is c
-pub record CleanCopy (mode signs : ℕ) (c : Car) (ws : List ℕ) : Type 0 where
+pub record CleanCopy (mode signs towing : ℕ) (c : Car) (ws : List ℕ) : Type 0 where
   -- the copy in every buffer that is long enough, and its number
-  pub number : (buffer : List ℕ) → accepted_of c ws ≤ length buffer → copy_of mode signs ws buffer ≡ record { written = accepted_of c ws; refusal = 0 }
-  pub copied : (buffer : List ℕ) → accepted_of c ws ≤ length buffer → IsCopy c ws (copy_in mode signs ws buffer)
+  pub number : (buffer : List ℕ) → accepted_of c ws ≤ length buffer → copy_of mode signs towing ws buffer ≡ record { written = accepted_of c ws; refusal = 0 }
+  pub copied : (buffer : List ℕ) → accepted_of c ws ≤ length buffer → IsCopy c ws (copy_in mode signs towing ws buffer)
   -- "Words past the copy keep their contents"
-  pub past : (buffer : List ℕ) → accepted_of c ws ≤ length buffer → drop (accepted_of c ws) (copy_buffer mode signs ws buffer) ≡ drop (accepted_of c ws) buffer
+  pub past : (buffer : List ℕ) → accepted_of c ws ≤ length buffer → drop (accepted_of c ws) (copy_buffer mode signs towing ws buffer) ≡ drop (accepted_of c ws) buffer
   -- "Copying the copy changes nothing": the same number and the same words, in every buffer that is long enough
   pub again_number : (buffer other : List ℕ) → accepted_of c ws ≤ length buffer → accepted_of c ws ≤ length other
-      → copy_of mode signs (copy_in mode signs ws buffer) other ≡ copy_of mode signs ws buffer
+      → copy_of mode signs towing (copy_in mode signs towing ws buffer) other ≡ copy_of mode signs towing ws buffer
   pub again : (buffer other : List ℕ) → accepted_of c ws ≤ length buffer → accepted_of c ws ≤ length other
-      → copy_in mode signs (copy_in mode signs ws buffer) other ≡ copy_in mode signs ws buffer
+      → copy_in mode signs towing (copy_in mode signs towing ws buffer) other ≡ copy_in mode signs towing ws buffer
   -- "A buffer shorter than the accepted words is left untouched"
-  pub short : (buffer : List ℕ) → length buffer < accepted_of c ws → copy_of mode signs ws buffer ≡ record { written = 0; refusal = 19 }
-  pub untouched : (buffer : List ℕ) → length buffer < accepted_of c ws → copy_buffer mode signs ws buffer ≡ buffer
+  pub short : (buffer : List ℕ) → length buffer < accepted_of c ws → copy_of mode signs towing ws buffer ≡ record { written = 0; refusal = 19 }
+  pub untouched : (buffer : List ℕ) → length buffer < accepted_of c ws → copy_buffer mode signs towing ws buffer ≡ buffer

@@ -47,11 +47,11 @@ unfoldable pub started_buffer : Answer Car → List ℕ → List ℕ → List �
 started_buffer (gives c) ws buffer = pick (too_short c ws buffer) buffer (copied_into c ws buffer)
 started_buffer (refused n) ws buffer = buffer
 
-unfoldable pub copy_of : ℕ → ℕ → List ℕ → List ℕ → Copied
-copy_of mode signs ws buffer = started_copy (fresh_of mode signs) ws buffer
+unfoldable pub copy_of : ℕ → ℕ → ℕ → List ℕ → List ℕ → Copied
+copy_of mode signs towing ws buffer = started_copy (fresh_of mode signs towing) ws buffer
 
-unfoldable pub copy_buffer : ℕ → ℕ → List ℕ → List ℕ → List ℕ
-copy_buffer mode signs ws buffer = started_buffer (fresh_of mode signs) ws buffer
+unfoldable pub copy_buffer : ℕ → ℕ → ℕ → List ℕ → List ℕ → List ℕ
+copy_buffer mode signs towing ws buffer = started_buffer (fresh_of mode signs towing) ws buffer
 
 -- ---- from a car, for a lesson that comes part by part: the same with the car behind it. 18 for a car that is not good, then 19
 pub record Part : Type 0 where

@@ -125,10 +125,16 @@ pub fn from_car(car: Car, words: &[u32], copy: &mut [u32]) -> Result<Part, Refus
 
 // The copy of a lesson from the fresh car of its settings, and how many words were written. 17, then 19.
 #[tactic(auto, using(settings::proofs::SettingsWordLaws::made_good, crate::proofs::CopyLaws::started_part, crate::proofs::CopyLaws::started_buffer_lem), unfolding(crate::specs::Copy::copy_of, crate::specs::Copy::copy_buffer, crate::specs::Copy::started_copy, crate::specs::Copy::unwritten, crate::specs::Copy::started_buffer))]
-pub fn of_lesson(mode: u32, signs: u32, words: &[u32], copy: &mut [u32]) -> Result<usize, Refusal>
-    ensures { (copy_answer result ≡ copy_of mode signs words.now copy.old) × (copy.new ≡ copy_buffer mode signs words.now copy.old) }
+pub fn of_lesson(
+    mode: u32,
+    signs: u32,
+    towing: u32,
+    words: &[u32],
+    copy: &mut [u32],
+) -> Result<usize, Refusal>
+    ensures { (copy_answer result ≡ copy_of mode signs towing words.now copy.old) × (copy.new ≡ copy_buffer mode signs towing words.now copy.old) }
 {
-    let car = Car::fresh(mode, signs)?;
+    let car = Car::fresh(mode, signs, towing)?;
     let part = from_car(car, words, copy)?;
     Ok(part.written)
 }

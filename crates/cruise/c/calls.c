@@ -6,8 +6,8 @@
 #include <stdio.h>
 #include <string.h>
 
-#if CRUISE_VERSION < 0x000800 || CRUISE_VERSION >= 0x010000
-#error "calls.c is for version 0.8 and those that keep to it"
+#if CRUISE_VERSION < 0x000900 || CRUISE_VERSION >= 0x010000
+#error "calls.c is for version 0.9 and those that keep to it"
 #endif
 
 /* What a buffer holds before a call, and the words round it always. */
@@ -103,10 +103,21 @@ static void words(void)
     EQUAL(cruise_word_settings(CRUISE_MODE_ADAPTIVE, 0), 0xD0000002);
     EQUAL(cruise_word_settings(CRUISE_MODE_NORMAL, 1), 0xD0000005);
     EQUAL(cruise_word_settings(CRUISE_MODE_ADAPTIVE, 1), 0xD0000006);
+    EQUAL(cruise_word_settings_towing(CRUISE_MODE_NORMAL, 0, 0), 0xD0000001);
+    EQUAL(cruise_word_settings_towing(CRUISE_MODE_ADAPTIVE, 1, 0), 0xD0000006);
+    EQUAL(cruise_word_settings_towing(CRUISE_MODE_NORMAL, 0, 1), 0xD0000009);
+    EQUAL(cruise_word_settings_towing(CRUISE_MODE_ADAPTIVE, 0, 1), 0xD000000A);
+    EQUAL(cruise_word_settings_towing(CRUISE_MODE_NORMAL, 1, 1), 0xD000000D);
+    EQUAL(cruise_word_settings_towing(CRUISE_MODE_ADAPTIVE, 1, 1), 0xD000000E);
     EQUAL(cruise_settings_mode(0xD0000001), CRUISE_MODE_NORMAL);
     EQUAL(cruise_settings_mode(0xD0000006), CRUISE_MODE_ADAPTIVE);
+    EQUAL(cruise_settings_mode(0xD0000009), CRUISE_MODE_NORMAL);
     EQUAL(cruise_settings_signs(0xD0000002), 0);
     EQUAL(cruise_settings_signs(0xD0000005), 1);
+    EQUAL(cruise_settings_signs(0xD000000A), 0);
+    EQUAL(cruise_settings_towing(0xD0000006), 0);
+    EQUAL(cruise_settings_towing(0xD0000009), 1);
+    EQUAL(cruise_settings_towing(0xD000000E), 1);
 
     EQUAL(cruise_word_key(CRUISE_KEY_OUT, 0), 0x10000000);
     EQUAL(cruise_word_key(CRUISE_KEY_IN, 0), 0x10000001);
@@ -181,10 +192,17 @@ static void outside(uint32_t value)
     if (value == 0 || value > 2) {
         refuses_settings(cruise_word_settings(value, 0));
         refuses_settings(cruise_word_settings(value, 1));
+        refuses_settings(cruise_word_settings_towing(value, 0, 1));
+        refuses_settings(cruise_word_settings_towing(value, 1, 1));
     }
     if (value > 1) {
         refuses_settings(cruise_word_settings(CRUISE_MODE_NORMAL, value));
         refuses_settings(cruise_word_settings(CRUISE_MODE_ADAPTIVE, value));
+        refuses_settings(cruise_word_settings_towing(CRUISE_MODE_NORMAL, value, 0));
+        refuses_settings(cruise_word_settings_towing(CRUISE_MODE_ADAPTIVE, value, 1));
+        refuses_settings(cruise_word_settings_towing(CRUISE_MODE_NORMAL, 1, value));
+        refuses_settings(cruise_word_settings_towing(CRUISE_MODE_ADAPTIVE, 0, value));
+        refuses_settings(cruise_word_settings_towing(CRUISE_MODE_ADAPTIVE, value, value));
         refuses(1, cruise_word_key(CRUISE_KEY_IN, value), CRUISE_UNNAMED_BIT);
         refuses(1, cruise_word_key(CRUISE_KEY_ON, value), CRUISE_UNNAMED_BIT);
         refuses(10, cruise_word_tick(value), CRUISE_UNNAMED_BIT);
@@ -274,14 +292,16 @@ static void fields(void)
 
 static void fresh_cars(void)
 {
-    static const uint32_t settings[4] = {0xD0000001, 0xD0000002, 0xD0000005, 0xD0000006};
-    static const uint32_t others[] = {0xD0000000, 0xD0000003, 0xD0000004, 0xD0000007, 0xD0000009, 0xD0000010, 0xD8000001, 0xC0000001,
-                                      0x10000001, 0xE0000001, 0x00000000, 0x00000001, 0xFFFFFFFF};
+    static const uint32_t settings[8] = {0xD0000001, 0xD0000002, 0xD0000005, 0xD0000006, 0xD0000009, 0xD000000A, 0xD000000D, 0xD000000E};
+    static const uint32_t firsts[8] = {0xB0000001, 0xB0000002, 0xB0000005, 0xB0000006, 0xB0004001, 0xB0004002, 0xB0004005, 0xB0004006};
+    static const uint32_t others[] = {0xD0000000, 0xD0000003, 0xD0000004, 0xD0000007, 0xD0000008, 0xD000000B, 0xD000000C, 0xD000000F,
+                                      0xD0000010, 0xD0000011, 0xD0000019, 0xD8000001, 0xC0000001, 0xC0000009, 0x10000001, 0xE0000001,
+                                      0x00000000, 0x00000001, 0xFFFFFFFF};
     struct area record;
-    for (size_t i = 0; i < 4; i++) {
+    for (size_t i = 0; i < 8; i++) {
         uint32_t made[WORDS];
         copy(made, fresh);
-        made[0] = 0xB0000000u | (settings[i] & 7u);
+        made[0] = firsts[i];
         for (size_t length = 0; length <= 24; length++) {
             uint32_t *at = lay(&record, NULL, 0);
             EQUAL(cruise_fresh(settings[i], at, length), length < 12 ? CRUISE_SHORT_RECORD : CRUISE_ACCEPTED);
@@ -527,6 +547,103 @@ static void kick_down(void)
     }
 }
 
+/* Document 02, 11: the highest D is 2000 alone and 1000 towing, by each word that changes it. The car: mode 2, signs 1, key on, P. */
+static void towing(void)
+{
+    static const struct {
+        uint32_t flags, speed, desired, word, alone, towed; /* flags without towing; D afterwards */
+    } cases[] = {
+        {0xB0003016, 300, 995, 0x20000001, 1005, 1000},  /* up5 */
+        {0xB0003016, 300, 950, 0x20000002, 1000, 1000},  /* up7 */
+        {0xB0003016, 300, 1000, 0x20000002, 1100, 1000},
+        {0xB0003016, 300, 1000, 0x20000003, 990, 990},   /* down5 */
+        {0xB0003016, 300, 1000, 0x20000004, 900, 900},   /* down7 */
+        {0xB0002016, 1001, 0, 0x20000004, 1001, 1000},   /* cruise off */
+        {0xB0002016, 1500, 0, 0x20000001, 1500, 1000},
+        {0xB0002016, 999, 0, 0x20000001, 999, 999},
+        {0xB0002016, 1500, 0, 0x30000001, 1500, 1000},   /* forward */
+        {0xB0002016, 1500, 700, 0x30000001, 700, 700},
+        {0xB0003016, 300, 400, 0x80000514, 1300, 1000},  /* signs 1300, 1301, 1001, 1000, 200, 199 */
+        {0xB0003016, 300, 400, 0x80000515, 1200, 1000},
+        {0xB0003016, 300, 400, 0x800003E9, 1001, 1000},
+        {0xB0003016, 300, 400, 0x800003E8, 1000, 1000},
+        {0xB0003016, 300, 400, 0x800000C8, 200, 200},
+        {0xB0003016, 300, 400, 0x800000C7, 400, 400},
+        {0xB0003036, 300, 995, 0xA0000001, 1005, 1000},  /* up5 held since 0 from 995, at the second 1 */
+        {0xB0003056, 300, 1000, 0xA0000001, 1100, 1000}, /* up7 */
+    };
+    struct area record;
+    for (size_t i = 0; i < sizeof cases / sizeof cases[0]; i++) {
+        for (uint32_t with = 0; with <= 1; with++) {
+            uint32_t car[WORDS], speed, desired, visual, acoustic, distance;
+            int32_t acceleration;
+            uint32_t *at;
+            copy(car, fresh);
+            car[0] = cases[i].flags | with << 14;
+            car[2] = 0xB2000000u | cases[i].speed;
+            car[4] = 0xB4000000u | cases[i].desired;
+            car[6] = 0xB6000000u | (cases[i].word == 0xA0000001 ? cases[i].desired : 0);
+            car[7] = 0xB7000000;
+            car[10] = 0xBA000001;
+            at = lay(&record, car, WORDS);
+            EQUAL(cruise_drive(at, WORDS, cases[i].word), CRUISE_ACCEPTED);
+            EQUAL(cruise_figures(at, WORDS, &speed, &desired, &acceleration, &visual, &acoustic, &distance), CRUISE_ACCEPTED);
+            EQUAL(desired, with == 1 ? cases[i].towed : cases[i].alone);
+            EQUAL(at[0] >> 14 & 1, with);
+            EQUAL(at[4] >> 11 & 0x7FF, with == 0 && desired >= 1200 && cases[i].word >> 28 == 2 ? desired : 0); /* E */
+        }
+    }
+}
+
+/* A record's ranges: D and B up to 2000 alone and 1000 towing, E 0 or 1200 to 2000 alone and 0 towing. */
+static void towing_records(void)
+{
+    static const struct {
+        uint32_t desired, manual, alone, towed;
+    } cases[] = {
+        {1000, 0, CRUISE_ACCEPTED, CRUISE_ACCEPTED},        {1001, 0, CRUISE_ACCEPTED, CRUISE_NOT_ACCEPTED},
+        {2000, 0, CRUISE_ACCEPTED, CRUISE_NOT_ACCEPTED},    {2001, 0, CRUISE_NOT_ACCEPTED, CRUISE_NOT_ACCEPTED},
+        {1000, 1, CRUISE_NOT_ACCEPTED, CRUISE_NOT_ACCEPTED},    {1000, 1000, CRUISE_NOT_ACCEPTED, CRUISE_NOT_ACCEPTED},
+        {1000, 1199, CRUISE_NOT_ACCEPTED, CRUISE_NOT_ACCEPTED}, {1000, 1200, CRUISE_ACCEPTED, CRUISE_NOT_ACCEPTED},
+        {1000, 2000, CRUISE_ACCEPTED, CRUISE_NOT_ACCEPTED},     {1000, 2001, CRUISE_NOT_ACCEPTED, CRUISE_NOT_ACCEPTED},
+    };
+    struct area first, second;
+    uint32_t alike = KEPT;
+    uint32_t car[WORDS];
+    copy(car, listed);
+    for (size_t i = 0; i < sizeof cases / sizeof cases[0]; i++) {
+        car[4] = 0xB4000000u | cases[i].desired | cases[i].manual << 11;
+        car[0] = 0xB0003111;
+        EQUAL(cruise_test(lay(&first, car, WORDS), WORDS), cases[i].alone);
+        car[0] = 0xB0007111;
+        EQUAL(cruise_test(lay(&first, car, WORDS), WORDS), cases[i].towed);
+    }
+    /* up5 held for a second, D = B */
+    for (uint32_t base = 999; base <= 1001; base++) {
+        copy(car, behind);
+        car[4] = 0xB4000000u | base;
+        car[6] = 0xB6000000u | base;
+        car[10] = 0xBA000001;
+        car[0] = 0xB0003032;
+        EQUAL(cruise_test(lay(&first, car, WORDS), WORDS), CRUISE_ACCEPTED);
+        car[0] = 0xB0007032;
+        EQUAL(cruise_test(lay(&first, car, WORDS), WORDS), base <= 1000 ? CRUISE_ACCEPTED : CRUISE_NOT_ACCEPTED);
+    }
+    /* bit 15 is named no more than before */
+    copy(car, fresh);
+    car[0] = 0xB0008001;
+    EQUAL(cruise_test(lay(&first, car, WORDS), WORDS), CRUISE_NOT_ACCEPTED);
+    /* the same car alone and towing is not alike */
+    copy(car, behind);
+    lay(&first, car, WORDS);
+    car[0] = 0xB0007012;
+    lay(&second, car, WORDS);
+    EQUAL(cruise_alike(first.words + ROUND, WORDS, second.words + ROUND, WORDS, &alike), CRUISE_ACCEPTED);
+    EQUAL(alike, 0);
+    EQUAL(cruise_alike(second.words + ROUND, WORDS, second.words + ROUND, WORDS, &alike), CRUISE_ACCEPTED);
+    EQUAL(alike, 1);
+}
+
 /* Lessons of no words, and answer buffers of every length up to past the lesson's. */
 static void lessons(void)
 {
@@ -593,12 +710,12 @@ static void copy_refuses(uint32_t settings)
 static void copies(void)
 {
     static const uint32_t clean[8] = {0x10000001, 0x10000006, 0x500000E1, 0xA0000001, 0x20000001, 0x20000000, 0x30000001, 0xA0000001};
-    static const uint32_t settings[4] = {0xD0000001, 0xD0000002, 0xD0000005, 0xD0000006};
-    static const uint32_t others[] = {0xD0000000, 0xD0000003, 0xD0000004, 0xD0000009, 0xD8000001, 0x10000001, 0x00000001, 0xFFFFFFFF};
+    static const uint32_t settings[5] = {0xD0000001, 0xD0000002, 0xD0000005, 0xD0000006, 0xD000000E};
+    static const uint32_t others[] = {0xD0000000, 0xD0000003, 0xD0000004, 0xD0000008, 0xD0000011, 0xD8000001, 0x10000001, 0x00000001, 0xFFFFFFFF};
     static const uint32_t all_refused[3] = {0x500000E1, 0x00000000, 0x10000002}; /* 4, 1 and 7 */
     struct area record, answers;
     size_t accepted = 77, refused = 77, written = 77;
-    for (size_t i = 0; i < 4; i++) {
+    for (size_t i = 0; i < 5; i++) {
         for (size_t room = 0; room <= 12; room++) {
             uint32_t refusal = room < 8 ? CRUISE_SHORT_ANSWERS : CRUISE_ACCEPTED;
             copy_is(__LINE__, settings[i], listing, 10, room, refusal, clean, room < 8 ? 0 : 8);
@@ -1257,6 +1374,8 @@ int main(void)
     roundabout();
     pedals();
     kick_down();
+    towing();
+    towing_records();
     lessons();
     copies();
     marks();

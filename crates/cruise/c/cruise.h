@@ -25,7 +25,7 @@ extern "C" {
 
 /* The version of this header and of the archive beside it: it rises with each change of what a function gives. */
 #define CRUISE_VERSION_MAJOR 0
-#define CRUISE_VERSION_MINOR 8
+#define CRUISE_VERSION_MINOR 9
 #define CRUISE_VERSION (CRUISE_VERSION_MAJOR << 16 | CRUISE_VERSION_MINOR << 8)
 
 /* How many words a record has. */
@@ -85,7 +85,7 @@ enum {
 
 static inline uint32_t cruise_word_kind(uint32_t word) { return word >> 28; }
 
-/* The settings: mode and signs (0 or 1). */
+/* The settings: mode, signs (0 or 1) and towing (0 or 1). */
 enum { CRUISE_MODE_NORMAL = 1, CRUISE_MODE_ADAPTIVE = 2 };
 /* The key's positions. */
 enum { CRUISE_KEY_OUT = 0, CRUISE_KEY_IN = 1, CRUISE_KEY_ON = 2 };
@@ -102,10 +102,20 @@ static inline uint32_t cruise_at_most(uint32_t value, uint32_t bound) { return v
 /* The words, one function for each kind. They refuse nothing and no value spills into another field: one that is outside its range gives
    a word of the same kind that is refused, an event word with 3 (ready above 1: with 2) and the settings word with 17. */
 
-/* The settings word: mode 1 (normal cruise) or 2 (adaptive) in bits 0-1, signs 0 or 1 in bit 2. */
+/* A flag, 0 or 1, at its bit of a settings word; any other value gives bit 4, which is unnamed. */
+static inline uint32_t cruise_settings_flag(uint32_t flag, uint32_t bit) { return flag < 2 ? flag << bit : 1u << 4; }
+
+/* The settings word of a car alone: mode 1 (normal cruise) or 2 (adaptive) in bits 0-1, signs 0 or 1 in bit 2. */
 static inline uint32_t cruise_word_settings(uint32_t mode, uint32_t signs)
 {
-    return 0xD0000000u | cruise_at_most(mode, 3) | (cruise_at_most(signs, 2) << 2);
+    return 0xD0000000u | cruise_at_most(mode, 3) | cruise_settings_flag(signs, 2);
+}
+
+/* The same with towing, 0 or 1, in bit 3: with 1 the highest desired speed is 1000 instead of 2000. From version 0.9 on; a settings word of an older
+   version means here what it meant there, and an older version refuses the word of a towing car with 17, its record with 18. */
+static inline uint32_t cruise_word_settings_towing(uint32_t mode, uint32_t signs, uint32_t towing)
+{
+    return cruise_word_settings(mode, signs) | cruise_settings_flag(towing, 3);
 }
 
 /* The key to a position, 0..2 (bits 0-1); ready 1 where the radar is ready, which only a key turned on may say (bit 2). */
@@ -147,6 +157,7 @@ static inline uint32_t cruise_word_tick(uint32_t ready) { return 0xA0000000u | c
 /* The fields of a settings word, told by its kind, CRUISE_KIND_SETTINGS. */
 static inline uint32_t cruise_settings_mode(uint32_t settings) { return settings & 3; }
 static inline uint32_t cruise_settings_signs(uint32_t settings) { return settings >> 2 & 1; }
+static inline uint32_t cruise_settings_towing(uint32_t settings) { return settings >> 3 & 1; }
 
 /* The fields of an answer word of a lesson, told by its kind, CRUISE_KIND_ANSWER: the refusal or 0 (bits 0-4), the visual and the acoustic
    warning, 1 or 0 (bits 5 and 6), a (bits 7-13 hold a + 60) and D (bits 14-24), all of the car after the word. The other bits are 0. */
@@ -156,7 +167,7 @@ static inline uint32_t cruise_answer_acoustic(uint32_t answer) { return answer >
 static inline int32_t cruise_answer_acceleration(uint32_t answer) { return (int32_t)(answer >> 7 & 0x7F) - 60; }
 static inline uint32_t cruise_answer_desired(uint32_t answer) { return answer >> 14 & 0x7FF; }
 
-/* A fresh car from its settings word (cruise_word_settings): its record into the buffer's first twelve words; the words past the twelfth
+/* A fresh car from its settings word (cruise_word_settings, cruise_word_settings_towing): its record into the buffer's first twelve words; the words past the twelfth
    are kept.
    17 a word that is no settings word, or with settings outside their values. 20 record buffer under 12 words, kept. */
 uint32_t cruise_fresh(uint32_t settings, uint32_t *record, size_t length);
@@ -172,7 +183,7 @@ uint32_t cruise_drive(uint32_t *record, size_t length, uint32_t word);
 uint32_t cruise_lesson(uint32_t *record, size_t length, const uint32_t *words, size_t count, uint32_t *answers, size_t room,
                        size_t *accepted, size_t *refused);
 
-/* A clean copy of a lesson: the words that are accepted, from the fresh car of a settings word (cruise_word_settings), in order, into the
+/* A clean copy of a lesson: the words that are accepted, from the fresh car of a settings word (as for cruise_fresh), in order, into the
    buffer's first words; the words past the copy keep their contents. Also the number of words written. The lesson of the copy refuses
    nothing and ends in the same car. From version 0.2 on.
    17 a word that is no settings word, or with settings outside their values. 19 buffer shorter than the accepted words. Either way the

@@ -1,5 +1,5 @@
 // Runs every function of the library over thirteen words of its own. Standard input (words, little-endian) holds calls: the kind, how
-// many of the thirteen words are lent, and what the kind needs: 1 words, as many as are lent, to take their place; 2 mode signs, a fresh
+// many of the thirteen words are lent, and what the kind needs: 1 words, as many as are lent, to take their place; 2 mode signs towing, a fresh
 // car; 3 word, one word driven; 4 room count words, a lesson with that room for answers; 5 kind metres kmh, a sighting, the floats as their
 // bits; 0 ends.
 // Prints for each, but kind 1, its refusal (a lesson's counts behind it, and in a line its sixteen words for answers) and the thirteen
@@ -25,8 +25,8 @@ fn signed(page: &mut Page<'_>, n: i32) {
 
 // Words, input and page stand apart: each call is lent another part of the words, and `tester::cases` hands over input and page anew.
 fn fresh(words: &mut [u32], input: &mut Reader<'_>, page: &mut Page<'_>) {
-    let [mode, signs] = input.take::<2>();
-    let refusal = cruise::cruise_fresh(tester::settings_word(mode, signs), words);
+    let [mode, signs, towing] = input.take::<3>();
+    let refusal = cruise::cruise_fresh(tester::settings_word(mode, signs, towing), words);
     page.words_line(&[refusal]);
 }
 

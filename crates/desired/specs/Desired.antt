@@ -1,4 +1,5 @@
--- The desired speed D, and E, over plain numbers: document 01, "Rules of each event", L, the tick's hold, and a sign. `top` is the ceiling of D.
+-- The desired speed D, and E, over plain numbers: document 01, "Rules of each event", L, the tick's hold, and a sign. `top` is the ceiling of D,
+-- 2000 there; towing it is 1000 (document 02, §11).
 -- Assumes nothing.
 use Rattle.std.specs.Prelude.{ℕ, ◌+◌, ◌-◌, ◌*◌, ◌/◌, min, max, eqb, leb, ltb}
 use Rattle.kit.specs.Pick.{pick}
@@ -46,10 +47,13 @@ held top position base h = pick (ltb h 2) base (long_held top position base h)
 unfoldable pub manual_after : ℕ → ℕ → ℕ
 manual_after d e = pick (leb 1200 d) d e
 
--- "200..1300 gives D = s; above 1300 gives 1200 if D < 1200, else E if E > 0, else D. Below 200 nothing"
-unfoldable pub sign_desired : ℕ → ℕ → ℕ → ℕ
-sign_desired s d e =
-    pick (ltb s 200) d
-    (pick (leb s 1300) s
+-- "200..1300 gives D = s; above 1300 gives 1200 if D < 1200, else E if E > 0, else D"
+unfoldable pub sign_gives : ℕ → ℕ → ℕ → ℕ
+sign_gives s d e =
+    pick (leb s 1300) s
     (pick (ltb d 1200) 1200
-    (pick (ltb 0 e) e d)))
+    (pick (ltb 0 e) e d))
+
+-- "Below 200 nothing"; and "a sign's D is cut" to the ceiling (document 02, §11)
+unfoldable pub sign_desired : ℕ → ℕ → ℕ → ℕ → ℕ
+sign_desired top s d e = pick (ltb s 200) d (min top (sign_gives s d e))

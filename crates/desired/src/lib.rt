@@ -4,7 +4,7 @@
 #![tactic(auto, using(kit::specs::Pick::picks))]
 
 ghost use Rattle.std.specs.Prelude.{◌≡◌, ◌+◌, ◌-◌, min, max};
-ghost use Rattle.desired.specs.Desired.{up5, up7, down5, down7, stepped, long_held, held, manual_after, sign_desired};
+ghost use Rattle.desired.specs.Desired.{up5, up7, down5, down7, stepped, long_held, held, manual_after, sign_gives, sign_desired};
 
 // The sum, at most top.
 fn raised(top: u32, a: u32, b: u64) -> u32
@@ -96,14 +96,11 @@ pub fn manual_after(d: u32, e: u32) -> u32
     e
 }
 
-// D by a sign that acts, by its value, D and E.
-#[tactic(auto, using(kit::specs::Pick::picks), unfolding(crate::specs::Desired::sign_desired))]
-pub fn sign_desired(s: u32, d: u32, e: u32) -> u32
-    ensures { result ≡ sign_desired s d e }
+// D by a sign of 200 or more, by its value, D and E, before it is cut.
+#[tactic(auto, using(kit::specs::Pick::picks), unfolding(crate::specs::Desired::sign_gives))]
+fn sign_gives(s: u32, d: u32, e: u32) -> u32
+    ensures { result ≡ sign_gives s d e }
 {
-    if s < 200 {
-        return d;
-    }
     if s <= 1300 {
         return s;
     }
@@ -114,4 +111,15 @@ pub fn sign_desired(s: u32, d: u32, e: u32) -> u32
         return e;
     }
     d
+}
+
+// D by a sign that acts.
+#[tactic(auto, using(kit::specs::Pick::picks), unfolding(crate::specs::Desired::sign_desired))]
+pub fn sign_desired(top: u32, s: u32, d: u32, e: u32) -> u32
+    ensures { result ≡ sign_desired top s d e }
+{
+    if s < 200 {
+        return d;
+    }
+    sign_gives(s, d, e).min(top)
 }

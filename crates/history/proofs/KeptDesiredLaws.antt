@@ -1,6 +1,6 @@
 -- D is kept until a word renews it or the key is turned (document 02, §4), proved: one lemma for an event, one for a word, then list inductions.
 -- Assumes nothing.
-use Rattle.std.specs.Prelude.{Bool, true, ◌&&◌, ◌||◌, ◌≡◌, ℕ, ◌+◌, ◌-◌, min, eqb, leb, ltb}
+use Rattle.std.specs.Prelude.{Bool, true, ◌&&◌, ◌||◌, ◌≡◌, ℕ, ◌+◌, ◌-◌, min, eqb, ltb}
 use Rattle.std.proofs.Math.Bool.{false}
 use Rattle.std.proofs.Math.Path.{refl}
 use Rattle.std.proofs.Common.{sym, ◌∙◌, arith}
@@ -12,7 +12,7 @@ use Rattle.event.specs.declared.Input.TheVariants.{Key, UpDown, ForeBack, Brake,
 use Rattle.event.specs.declared.Event.{Event}
 use Rattle.event.specs.declared.Event.TheVariants as event
 use Rattle.event.specs.Words.{input_kind}
-use Rattle.desired.specs.Desired.{stepped, long_held, sign_desired}
+use Rattle.desired.specs.Desired.{stepped, long_held, sign_gives, sign_desired}
 use Rattle.car.specs.declared.Car.{Car}
 use Rattle.car.specs.Car.{fresh_car, settings_of, Permitted, ceiling_of, with_levers, with_pedals, with_limiter, with_cruise, with_radar, with_gap}
 use Rattle.car.specs.Drive.{input_next, event_next, check_of, step_of}
@@ -46,8 +46,7 @@ module _ (c : Car) where
       rw (p, r, z)
 
   pub renewed_sign : (s : ℕ) → input_renews c (Sign s) ≡ true
-      → (sign_passed c s).cruise.desired
-      ≡ pick (leb s 1300) s (pick (ltb c.cruise.desired 1200) 1200 (pick (ltb 0 c.cruise.manual) c.cruise.manual c.cruise.desired))
+      → (sign_passed c s).cruise.desired ≡ min (ceiling_of c.settings) (sign_gives s c.cruise.desired c.cruise.manual)
   unfolding input_renews sign_passed sign_after sign_desired with_cruise
   renewed_sign s h =
       let l = leb-true _ s (and_r (sign_acts c) _ h) in
@@ -264,10 +263,10 @@ from_zero c ws g zero = record {
   off = λ k. ((good _ (driven_good c ws g)).off k).desired;
 }
 
-fresh_desired : (mode signs : ℕ) → (fresh_car (settings_of mode signs)).cruise.desired ≡ 0
+fresh_desired : (mode signs towing : ℕ) → (fresh_car (settings_of mode signs towing)).cruise.desired ≡ 0
 unfolding fresh_car
-fresh_desired mode signs = refl
+fresh_desired mode signs towing = refl
 
 -- "For every list of words from a fresh car", with any permitted settings
-pub desired_kept : (mode signs : ℕ) → Permitted mode signs → (ws : List ℕ) → KeptDesired (fresh_car (settings_of mode signs)) ws
-desired_kept mode signs p ws = from_zero _ ws (permitted_good mode signs p) (fresh_desired mode signs)
+pub desired_kept : (mode signs towing : ℕ) → Permitted mode signs towing → (ws : List ℕ) → KeptDesired (fresh_car (settings_of mode signs towing)) ws
+desired_kept mode signs towing p ws = from_zero _ ws (permitted_good mode signs towing p) (fresh_desired mode signs towing)

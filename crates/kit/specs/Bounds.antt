@@ -12,6 +12,10 @@ speed_ceiling = 5000
 abbrev pub desired_ceiling : ℕ
 desired_ceiling = 2000
 
+-- "With it the ceiling 2000 on D and B is 1000": towing (document 02, §11)
+abbrev pub towing_ceiling : ℕ
+towing_ceiling = 1000
+
 abbrev pub lesson_length : ℕ
 lesson_length = 86400
 

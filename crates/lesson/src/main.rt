@@ -12,7 +12,7 @@ const TEXTS: Texts<'static> = Texts {
     help: b"usage: lesson [FILE]
 Drives a fresh car through an exercise and prints a line for each event.
 FILE, or standard input, holds 32-bit words, lowest byte first: a settings word
-(D0000000 + mode 1 or 2, + 4 for road signs), then event words.
+(D0000000 + mode 1 or 2, + 4 for road signs, + 8 for towing), then event words.
 Printed is a head line, then for each event: its number, its refusal (0: none),
 speed and desired speed in tenths of km/h, acceleration in tenths of m/s2, and
 the visual and acoustic warning (1: on).

@@ -16,7 +16,7 @@ Finds the event of an exercise that passed a speed mark, and counts the seconds
 that ended at or above it.
 MARK is a speed in tenths of km/h: decimal digits, at most 4294967295.
 FILE, or standard input, holds 32-bit words, lowest byte first: a settings word
-(D0000000 + mode 1 or 2, + 4 for road signs), then event words.
+(D0000000 + mode 1 or 2, + 4 for road signs, + 8 for towing), then event words.
 Printed is 'event' and the number of the first event at which the speed went
 from below the mark to the mark or above, counted as 'lesson' counts them, or
 'never'; then 'seconds' and their number. A mark of 0 is never passed, and

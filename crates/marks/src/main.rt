@@ -1,5 +1,5 @@
 // Finds the event that passed a mark, and the seconds at or above it (document 02, §5). Standard input (words, little-endian) holds cases: 1 mark
-// length record count words, the library's function on a record of that length; 2, 23 fields, mark count words, the calls on a car as it stands;
+// length record count words, the library's function on a record of that length; 2, 24 fields, mark count words, the calls on a car as it stands;
 // 3 mark cut length words, an exercise file of so many bytes, handed over in pieces of that cut; 0 ends.
 // Prints for a record the refusal, the event (0 for never) and the seconds; for a car the same, then its fields afterwards, the search's refusal and
 // event, and the count's refusal and seconds; for a file the text of its mark.
@@ -88,7 +88,7 @@ fn record_case(input: &mut Reader<'_>, page: &mut Page<'_>) {
 }
 
 fn car_case(input: &mut Reader<'_>, page: &mut Page<'_>) {
-    let car = tester::car_at(&input.take::<23>(), 0);
+    let car = tester::car_at(&input.take::<24>(), 0);
     let mark = input.next();
     let mut words = [0; 3075];
     by_calls(page, car, lesson(&mut words, input), mark);

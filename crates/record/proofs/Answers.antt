@@ -1,7 +1,7 @@
 -- Each way out of the calls, by the equations that their calls and tests give.
 -- Assumes nothing.
 use Rattle.std.specs.Result.{is_ok}
-use Rattle.std.specs.Prelude.{Result, Ok, Err, Bool, true, false, not, ◌≡◌, refl, List, ◌++◌, ℕ, ◌≤◌, ◌<◌, length, drop, replicate, nat_eq}
+use Rattle.std.specs.Prelude.{Result, Ok, Err, true, false, not, ◌≡◌, refl, List, ◌++◌, ℕ, ◌≤◌, ◌<◌, length, drop, replicate, nat_eq}
 use Rattle.std.proofs.Common.{true≢false, sym, ap, ◌∙◌}
 use Rattle.std.proofs.lemmas.Bool.{not-false}
 use Rattle.kit.specs.Answer.{gives, refused}

@@ -1,4 +1,4 @@
--- The record's layout: document 01, "The record".
+-- The record's layout: document 01, "The record", and document 02, §11.
 -- Assumes nothing.
 use Rattle.std.specs.Prelude.{Bool, List, [], ◌∷◌, ℕ, suc, ◌+◌, ◌-◌, ◌*◌, ◌/◌, ◌%◌, ◌^◌, eqb, get_or}
 use Rattle.event.specs.Words.{bit_of}
@@ -17,13 +17,15 @@ abbrev pub flag : (Car → Bool) → Field
 flag f = record { width = 1; value = λ c. bit_of (f c) }
 
 -- "Bits from 0, widths in brackets, else one bit: 0: mode (2), signs, key (2), L (3), M (2), H, S, C, P. 1: b (8), g (8). 2: v. 3: Z (13
--- each). 4: D (11), E (11). 5: T (17). 6: B (11). 7: R (8), W (13). 8: Y (13). 9: G (5). 10: now. 11: Q (17 each)."
+-- each). 4: D (11), E (11). 5: T (17). 6: B (11). 7: R (8), W (13). 8: Y (13). 9: G (5). 10: now. 11: Q (17 each)." And "towing, .. bit 14 of a
+-- record's word 0"
 abbrev pub layout : List (List Field)
 layout =
-    -- 0: mode (2), signs, key (2), L (3), M (2), H, S, C, P
+    -- 0: mode (2), signs, key (2), L (3), M (2), H, S, C, P, towing
     (bits 2 (λ c. c.settings.mode) ∷ flag (λ c. c.settings.signs) ∷ bits 2 (λ c. c.key)
     ∷ bits 3 (λ c. c.levers.updown) ∷ bits 2 (λ c. c.levers.foreback)
-    ∷ flag (λ c. c.limiter.button) ∷ flag (λ c. c.limiter.on) ∷ flag (λ c. c.cruise.on) ∷ flag (λ c. c.radar.ready) ∷ [])
+    ∷ flag (λ c. c.limiter.button) ∷ flag (λ c. c.limiter.on) ∷ flag (λ c. c.cruise.on) ∷ flag (λ c. c.radar.ready)
+    ∷ flag (λ c. c.settings.towing) ∷ [])
     -- 1: b (8), g (8)
     ∷ (bits 8 (λ c. c.pedals.brake) ∷ bits 8 (λ c. c.pedals.gas) ∷ [])
     -- 2: v. 3: Z (13 each)
@@ -101,7 +103,7 @@ fields_from place (fs ∷ rows) ws = fields fs (get_or ws place 0) ∷ fields_fr
 unfoldable pub car_of : List (List ℕ) → Car
 car_of table =
     record {
-      settings = record { mode = at 0 0; signs = eqb (at 0 1) 1 };
+      settings = record { mode = at 0 0; signs = eqb (at 0 1) 1; towing = eqb (at 0 9) 1 };
       key = at 0 2;
       levers = record { updown = at 0 3; foreback = at 0 4; time = at 5 0; base = at 6 0 };
       pedals = record { brake = at 1 0; gas = at 1 1 };

@@ -7,7 +7,7 @@ ghost use Rattle.record.specs.LayoutShape.{Fits};
 use car::{Car, Cruise, Levers, Limiter, Pedals, RangeRadar, Settings};
 use event::bit;
 
-// Word 0: mode, signs, key, L, M, H, S, C, P.
+// Word 0: mode, signs, key, L, M, H, S, C, P, towing.
 fn first_word(car: Car) -> u32
     requires { Fits car }
     ensures { result ≡ word_of car 0 }
@@ -17,6 +17,7 @@ fn first_word(car: Car) -> u32
     let limiter = bit(car.limiter.on);
     let cruise = bit(car.cruise.on);
     let ready = bit(car.radar.ready);
+    let towing = bit(car.settings.towing);
     0xB000_0000
         + car.settings.mode
         + signs * 4
@@ -27,6 +28,7 @@ fn first_word(car: Car) -> u32
         + limiter * 2048
         + cruise * 4096
         + ready * 8192
+        + towing * 16384
 }
 
 #[tactic(auto, using(kit::specs::Pick::picks), unfolding(crate::specs::Layout::packed))]
@@ -60,6 +62,7 @@ pub(crate) fn unpack(words: [u32; 12]) -> Car
         settings: Settings {
             mode: first % 4,
             signs: first / 4 % 2 == 1,
+            towing: first / 16384 % 2 == 1,
         },
         key: first / 8 % 4,
         levers: Levers {

@@ -36,12 +36,12 @@ scene_ends_lem c (x ∷ xs) =
     scene_ends_lem (car_after c x) xs ∙ ap (λ (d : Car). ends d (heard_all xs)) (call_ends c x) ∙ sym (ends_append c (heard x) (heard_all xs))
 
 -- ---- from a fresh car
-module _ (mode signs : ℕ) (permitted : Permitted mode signs) where
+module _ (mode signs towing : ℕ) (permitted : Permitted mode signs towing) where
   abbrev first : Car
-  first = fresh_car (settings_of mode signs)
+  first = fresh_car (settings_of mode signs towing)
 
   stays_good : (ys : List SceneCall) → good_of (scene_ends first ys) ≡ true
-  stays_good ys = rw (scene_ends_lem first ys) (good_test _ (demand_3 mode signs permitted (heard_all ys)).standing)
+  stays_good ys = rw (scene_ends_lem first ys) (good_test _ (demand_3 mode signs towing permitted (heard_all ys)).standing)
 
   sees : (ys : List SceneCall) (s : Sighting) (a : Answer (Option ℕ)) → seen_word s ≡ a → see_of (scene_ends first ys) s ≡ sighted_of (scene_ends first ys) a
   unfolding see_of
@@ -54,5 +54,5 @@ module _ (mode signs : ℕ) (permitted : Permitted mode signs) where
     event = λ ys s zs w _ h. sees ys s _ h;
     fault = λ ys s zs _ h. sees ys s _ h;
     refusal = λ ys s zs n _ h. sees ys s _ h;
-    demand = demand_3 mode signs permitted (heard_all xs);
+    demand = demand_3 mode signs towing permitted (heard_all xs);
   }

@@ -2,10 +2,11 @@
 -- Assumes nothing.
 use Rattle.std.specs.Prelude.{Bool, true, false, ◌≡◌, refl, List, ℕ, ◌≤◌, length}
 use Rattle.std.proofs.Common.{arith, inl, inr}
+use Rattle.kit.specs.Pick.{pick}
 use Rattle.event.specs.Words.{permitted_gap}
 use Rattle.car.specs.declared.Car.{Car}
 use Rattle.car.specs.Car.{ceiling_of}
-use Rattle.car.specs.Good.{positions_of, numbers_of, ranges_of, times_of, rule_a, rule_b, rule_c, rule_d, rule_e, rule_f, obeys_of, good_of}
+use Rattle.car.specs.Good.{positions_of, numbers_of, ranges_of, times_of, rule_a, rule_b, rule_c, rule_d, rule_e, rule_f, obeys_of, good_at, good_of}
 use Rattle.settling.specs.Settling.{Unhindered, LeftAlone, AcceptedTicks, after, AtDesired}
 use Rattle.settling.proofs.CruiseSpeedLaws.{slowest_57}
 use Rattle.settling.proofs.SettlingLaws.{course, stays}
@@ -23,7 +24,7 @@ slowest_needs_58 c ws g a t l p q n h e =
 abbrev pub slowest : ℕ → ℕ → Bool → Car
 slowest mode range ready =
     record {
-      settings = record { mode = mode; signs = true };
+      settings = record { mode = mode; signs = true; towing = false };
       key = 2;
       levers = record { updown = 0; foreback = 0; time = 0; base = 0 };
       pedals = record { brake = 0; gas = 0 };
@@ -43,5 +44,5 @@ Example mode range ready = (good_of (slowest mode range ready) ≡ true) × Left
 
 -- "mode 1", with a car ahead; "R 0"; "or 255"
 pub slowest_cars : Example 1 100 true × Example 2 0 true × Example 2 255 false
-unfolding good_of ranges_of positions_of numbers_of ceiling_of permitted_gap obeys_of times_of rule_a rule_b rule_c rule_d rule_e rule_f
+unfolding good_of good_at ranges_of positions_of numbers_of ceiling_of permitted_gap obeys_of times_of rule_a rule_b rule_c rule_d rule_e rule_f pick
 slowest_cars = ((refl, alone 1 100 true (inl refl)), (refl, alone 2 0 true (inr (inl refl))), (refl, alone 2 255 false (inr (inr refl))))

@@ -7,12 +7,13 @@ use crate::input::fill;
 use car::{Car, Cruise, Levers, Limiter, Pedals, RangeRadar, Settings};
 use event::bit;
 
-pub fn fields_of(car: Car) -> [u32; 23]
+pub fn fields_of(car: Car) -> [u32; 24]
     ensures { result ≡ fields_of car }
 {
     [
         car.settings.mode,
         bit(car.settings.signs),
+        bit(car.settings.towing),
         car.key,
         car.levers.updown,
         car.levers.foreback,
@@ -39,45 +40,46 @@ pub fn fields_of(car: Car) -> [u32; 23]
 
 // The car whose fields are the words from an index on.
 pub fn car_at(words: &[u32], at: usize) -> Car
-    ensures { result ≡ car_of (first_of 23 (drop at words.now)) }
+    ensures { result ≡ car_of (first_of 24 (drop at words.now)) }
 {
-    let mut fields = [0; 23];
+    let mut fields = [0; 24];
     fill(&mut fields, words, at);
     Car {
         settings: Settings {
             mode: fields[0],
             signs: fields[1] == 1,
+            towing: fields[2] == 1,
         },
-        key: fields[2],
+        key: fields[3],
         levers: Levers {
-            updown: fields[3],
-            foreback: fields[4],
-            time: fields[15],
-            base: fields[16],
+            updown: fields[4],
+            foreback: fields[5],
+            time: fields[16],
+            base: fields[17],
         },
         pedals: Pedals {
-            brake: fields[5],
-            gas: fields[6],
+            brake: fields[6],
+            gas: fields[7],
         },
         limiter: Limiter {
-            button: fields[7] == 1,
-            on: fields[8] == 1,
-            limit: fields[12],
+            button: fields[8] == 1,
+            on: fields[9] == 1,
+            limit: fields[13],
         },
         cruise: Cruise {
-            on: fields[9] == 1,
-            desired: fields[13],
-            manual: fields[14],
+            on: fields[10] == 1,
+            desired: fields[14],
+            manual: fields[15],
         },
         radar: RangeRadar {
-            ready: fields[10] == 1,
-            range: fields[17],
-            lead: fields[18],
-            earlier: fields[19],
-            tested: fields[22],
+            ready: fields[11] == 1,
+            range: fields[18],
+            lead: fields[19],
+            earlier: fields[20],
+            tested: fields[23],
         },
-        gap: fields[20],
-        speed: fields[11],
-        now: fields[21],
+        gap: fields[21],
+        speed: fields[12],
+        now: fields[22],
     }
 }

@@ -69,12 +69,12 @@ pub fn fill(into: &mut [u32], words: &[u32], at: usize)
     into[..count].copy_from_slice(&from[..count]);
 }
 
-// The settings word of mode and signs; settings outside their values have none, and get 0, which is refused as they are.
+// The word of settings; settings outside their values have none, and get 0, which is refused as they are.
 #[tactic(auto, using(kit::specs::Pick::picks), unfolding(crate::specs::Input::word_or0))]
-pub fn settings_word(mode: u32, signs: u32) -> u32
-    ensures { result ≡ word_or0 (write_of mode signs) }
+pub fn settings_word(mode: u32, signs: u32, towing: u32) -> u32
+    ensures { result ≡ word_or0 (write_of mode signs towing) }
 {
-    settings::write(mode, signs).unwrap_or(0)
+    settings::write(mode, signs, towing).unwrap_or(0)
 }
 
 // The float of a word's bits. All that are no number are one float: the language makes none of them from its bits.

@@ -1,5 +1,5 @@
-// What the test programs share: words (little-endian) from standard input, text in a lent slice, and a car as its 23 fields in document 01's
-// order: mode signs key L M b g H S C P v Z D E T B R W Y G now Q.
+// What the test programs share: words (little-endian) from standard input, text in a lent slice, and a car as its 24 fields in document 01's
+// order: mode signs towing key L M b g H S C P v Z D E T B R W Y G now Q.
 #![tactic(auto, using(kit::specs::Pick::picks))]
 
 mod fields;

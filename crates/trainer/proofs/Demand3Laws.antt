@@ -227,13 +227,13 @@ lesson_counts c ws buffer g = rw g (go (ltb (length buffer) (length ws)))
     go false h = counts_all c ws
 
 -- ---- demand 3
-fresh_idle : (mode signs : ℕ) → lever_held (fresh_car (settings_of mode signs)) ≡ true → ⊥
+fresh_idle : (mode signs towing : ℕ) → lever_held (fresh_car (settings_of mode signs towing)) ≡ true → ⊥
 unfolding fresh_car
-fresh_idle mode signs h = no (sym h)
+fresh_idle mode signs towing h = no (sym h)
 
-fresh_clock : (mode signs : ℕ) → (fresh_car (settings_of mode signs)).now ≡ 0
+fresh_clock : (mode signs towing : ℕ) → (fresh_car (settings_of mode signs towing)).now ≡ 0
 unfolding fresh_car
-fresh_clock mode signs = refl
+fresh_clock mode signs towing = refl
 
 -- from any good car with an idle lever and its clock at 0, whose D every list of words keeps
 from_good : (c : Car) (ks : List Call) → good_of c ≡ true → (lever_held c ≡ true → ⊥) → c.now ≡ 0 → ((us : List ℕ) → KeptDesired c us) → Demand3 c ks
@@ -264,6 +264,6 @@ from_good c ks g idle zero desired = record {
 }
 
 -- "For every list of these calls .., refused ones included, from a fresh car with any permitted settings, the following holds after it."
-pub demand_3 : (mode signs : ℕ) → Permitted mode signs → (ks : List Call) → Demand3 (fresh_car (settings_of mode signs)) ks
-demand_3 mode signs p ks =
-    from_good _ ks (permitted_good mode signs p) (fresh_idle mode signs) (fresh_clock mode signs) (desired_kept mode signs p)
+pub demand_3 : (mode signs towing : ℕ) → Permitted mode signs towing → (ks : List Call) → Demand3 (fresh_car (settings_of mode signs towing)) ks
+demand_3 mode signs towing p ks =
+    from_good _ ks (permitted_good mode signs towing p) (fresh_idle mode signs towing) (fresh_clock mode signs towing) (desired_kept mode signs towing p)

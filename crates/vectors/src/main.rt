@@ -1,6 +1,6 @@
 // Lists the exercise files in data/, each cut into pieces of a size of its own: the expected output is their listings in the same order. All
-// are outside ones but roundabout.bin, kickdown.bin and settling.bin, whose listings, of the same names, were worked out by hand. The longest,
-// clock-end.bin, is the input of `lesson`.
+// are outside ones but roundabout.bin, kickdown.bin, settling.bin and towing.bin, whose listings, of the same names, were worked out by hand. The
+// longest, clock-end.bin, is the input of `lesson`.
 #![tactic(auto)]
 
 ghost use Rattle.std.specs.Prelude.{◌≤◌, length};
@@ -50,6 +50,7 @@ fn list(rt: &HostRuntime, what: &[u8], cut: usize) -> Result<(), Told>
 fn odd_files(rt: &HostRuntime) -> Result<(), Told> {
     list(rt, b"vectors: example.bin", 1)?;
     list(rt, b"vectors: settings-alone.bin", 3)?;
+    list(rt, b"vectors: settings-bit-3.bin", 5)?;
     list(rt, b"vectors: nothing.bin", 1)?;
     list(rt, b"vectors: cut-first.bin", 2)?;
     list(rt, b"vectors: cut-later.bin", 3)?;
@@ -82,11 +83,12 @@ fn pages(rt: &HostRuntime) -> Result<(), Told> {
 }
 
 // Back to the old speed after a roundabout: D kept, taken by forward, and cleared. A car too close kicks down and lifts again. Cruise settles: from far
-// above, from far below and from one above, where v passes D and comes back.
+// above, from far below and from one above, where v passes D and comes back. Towing, D ends at 1000 by the levers, by forward, by a hold and by signs.
 fn by_hand(rt: &HostRuntime) -> Result<(), Told> {
     list(rt, b"vectors: roundabout.bin", 4)?;
     list(rt, b"vectors: kickdown.bin", 4)?;
-    list(rt, b"vectors: settling.bin", 4)
+    list(rt, b"vectors: settling.bin", 4)?;
+    list(rt, b"vectors: towing.bin", 4)
 }
 
 fn all(rt: &HostRuntime) -> Result<(), Told> {

@@ -1,0 +1,4 @@
+pub mod SettingsLaws
+pub mod ReadersBeforeLaws
+pub mod RulesBeforeLaws
+pub mod TowingLaws

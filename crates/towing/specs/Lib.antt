@@ -1,0 +1,3 @@
+pub mod ReadersBefore
+pub mod RulesBefore
+pub mod Towing
