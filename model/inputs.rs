@@ -37,16 +37,16 @@ pub fn clean(folder: &Folder) -> Result<Vec<u8>, String> {
     folder.bytes("pages-cycle.bin")?.map_or_else(|| stdin("clean"), Ok)
 }
 
-/// The longest walk of every folder: short ones do not have every sort of event.
-const LONG_WALK: &str = "walk-6.bin";
+/// A long exercise file of every folder: short ones do not have every sort of event.
+const DRIVEN_IN_THE_CAB: &str = "pages-cut.bin";
 
 /// The words of an exercise file, behind their number and the settings.
 pub fn cab_words(folder: &Folder) -> Result<Vec<u8>, String> {
-    let Some(file) = folder.bytes(LONG_WALK)? else {
+    let Some(file) = folder.bytes(DRIVEN_IN_THE_CAB)? else {
         return stdin("cab_words");
     };
     let words = words_of(&file);
-    let car = started(LONG_WALK, &words)?;
+    let car = started(DRIVEN_IN_THE_CAB, &words)?;
     let count = words.len() as u32 - 1;
     Ok(bytes_of(&[&[count], &Settings::of(&car).0[..], &words[1..]].concat()))
 }

@@ -35,7 +35,8 @@ pub fn run() -> bool {
             }
         }
     }
-    println!("no difference in {} cars left to cruise, {:.1?}", (TOP_SPEED + 1) * TOP_DESIRED.iter().sum::<i32>(), start.elapsed());
+    let cars = (TOP_SPEED + 1) * TOP_DESIRED.iter().sum::<i32>();
+    println!("no difference in {cars} cars left to cruise, {:.1?}", start.elapsed());
     let [below, above] =
         slowest.map(|(ticks, Reverse(desired), Reverse(speed))| format!("{ticks} ticks from v {speed} to D {desired}"));
     println!("  all settle, the slowest from below in {below}, from above in {above}");

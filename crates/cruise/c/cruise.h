@@ -111,8 +111,9 @@ static inline uint32_t cruise_word_settings(uint32_t mode, uint32_t signs)
     return 0xD0000000u | cruise_at_most(mode, 3) | cruise_settings_flag(signs, 2);
 }
 
-/* The same with towing, 0 or 1, in bit 3: with 1 the highest desired speed is 1000 instead of 2000. From version 0.9 on; a settings word of an older
-   version means here what it meant there, and an older version refuses the word of a towing car with 17, its record with 18. */
+/* The same with towing, 0 or 1, in bit 3: with 1 the highest desired speed is 1000 instead of 2000. From version 0.9 on: an older version refuses
+   the settings word of a towing car with 17 and its record with 18; what an older one accepts means the same here. Build programs anew with this
+   header: in older ones signs above 1 gave bit 3, to be refused. */
 static inline uint32_t cruise_word_settings_towing(uint32_t mode, uint32_t signs, uint32_t towing)
 {
     return cruise_word_settings(mode, signs) | cruise_settings_flag(towing, 3);

@@ -16,7 +16,7 @@ use Rattle.record.specs.Record.{read_of}
 use Rattle.record.proofs.RecordLaws.{same_eq, packed_read, read_accepted}
 use Rattle.settings.specs.SettingsWord.{settings_kind, mode_of, signs_of, towing_of, start_of}
 use Rattle.settings.proofs.SettingsWordLaws.{started_written}
-use Rattle.towing.specs.ReadersBefore.{packed_before, unpacked_before, accepted_before, read_before, bit_14, Records, made_before, other_before, start_before, bit_3, SettingsWords}
+use Rattle.towing.specs.ReadersBefore.{packed_before, unpacked_before, accepted_before, read_before, bit_14, RecordsAsBefore, made_before, other_before, start_before, bit_3, SettingsAsBefore}
 
 same_answer : {A : Type 0} (a b : A) → gives a ≡ gives b → a ≡ b
 same_answer a b h = cc
@@ -93,7 +93,7 @@ module _ (ws : List ℕ) where
   unfolding read_of read_before accepted_before
   old_record h = let u = unpacked_before ws in rw (unpacked_same h, good_alone u unpacked_alone, packed_alone u unpacked_alone) refl
 
-pub records : (ws : List ℕ) → Records ws
+pub records : (ws : List ℕ) → RecordsAsBefore ws
 records ws = record { old = old_record ws; alone = alone_record ws; bit = towing_bit ws; towing = towing_record ws }
 
 -- there are towing records, such as a fresh car's
@@ -180,5 +180,5 @@ module _ (w : ℕ) where
   towing_word : (c : Car) → start_of w ≡ gives c → c.settings.towing ≡ true → start_before w ≡ refused 17
   towing_word c h t = bit_word (eqb-true (bit_3 w) 1 (sym (towing_word_bit c h) ∙ t))
 
-pub settings_words : (w : ℕ) → SettingsWords w
+pub settings_words : (w : ℕ) → SettingsAsBefore w
 settings_words w = record { old = old_word w; alone = alone_word w; bit = towing_word_bit w; towing = towing_word w }

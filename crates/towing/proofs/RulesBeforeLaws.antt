@@ -26,7 +26,7 @@ use Rattle.wire.specs.Wire.{word_at, words_of}
 use Rattle.listing.specs.Listing.{refused_text}
 use Rattle.exercise.specs.Exercise.{events_text, lesson_text, started_text, listing_of}
 use Rattle.towing.specs.ReadersBefore.{start_before, bit_3}
-use Rattle.towing.specs.RulesBefore.{lever_before, up_down_before, forward_before, fore_back_before, sign_before, hold_before, held_before, ticked_before, input_before, event_before, reading_before, step_before, driven_before, answers_before, events_before, started_before, listing_before, Words, Files}
+use Rattle.towing.specs.RulesBefore.{lever_before, up_down_before, forward_before, fore_back_before, sign_before, hold_before, held_before, ticked_before, input_before, event_before, reading_before, step_before, driven_before, answers_before, events_before, started_before, listing_before, AloneAsBefore, FilesAsBefore}
 use Rattle.towing.proofs.ReadersBeforeLaws.{settings_words, bit_word}
 use Rattle.towing.proofs.SettingsLaws.{step_settings, driven_settings}
 
@@ -108,7 +108,7 @@ answers_same c [] g e = refl
 answers_same c (w ∷ ws) g e =
     rw (← step_same c (good c g) e w, answers_same (step_of c w).car ws (step_good c w g) (step_alone c w e)) refl
 
-pub alone_as_before : (c : Car) (ws : List ℕ) → good_of c ≡ true → c.settings.towing ≡ false → Words c ws
+pub alone_as_before : (c : Car) (ws : List ℕ) → good_of c ≡ true → c.settings.towing ≡ false → AloneAsBefore c ws
 alone_as_before c ws g e = record {
   each = λ us w vs _. step_same (driven c us) (good _ (driven_good c us g)) (rw (driven_settings c us) e) w;
   car = driven_same c ws g e;
@@ -142,5 +142,5 @@ module _ (bs : List ℕ) where
   unfolding listing_before started_before
   towing_file h = rw (bit_word (word_at bs 0) h) (pick_case (λ (t : List ℕ). t ≡ refused_text 17) _ _ _ (λ _. refl) (λ _. refl))
 
-pub files : (bs : List ℕ) → Files bs
+pub files : (bs : List ℕ) → FilesAsBefore bs
 files bs = record { old = old_file bs; towing = towing_file bs }

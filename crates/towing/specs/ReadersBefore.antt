@@ -41,7 +41,7 @@ read_before ws = pick (accepted_before ws) (gives (unpacked_before ws)) (refused
 abbrev pub bit_14 : List ℕ → ℕ
 bit_14 ws = get_or ws 0 0 / 2 ^ 14 % 2
 
-pub record Records (ws : List ℕ) : Type 0 where
+pub record RecordsAsBefore (ws : List ℕ) : Type 0 where
   -- "Old records .. read as a car alone, with all they held": the car is the one that they gave, and every refusal is as it was
   pub old : bit_14 ws ≡ 0 → read_of ws ≡ read_before ws
   pub alone : (c : Car) → read_before ws ≡ gives c → (c.settings.towing ≡ false) × (read_of ws ≡ gives c)
@@ -68,7 +68,7 @@ start_before w = pick (other_before w) (refused 17) (made_before (mode_of w) (bo
 abbrev pub bit_3 : ℕ → ℕ
 bit_3 w = w / 2 ^ 3 % 2
 
-pub record SettingsWords (w : ℕ) : Type 0 where
+pub record SettingsAsBefore (w : ℕ) : Type 0 where
   pub old : bit_3 w ≡ 0 → start_of w ≡ start_before w
   pub alone : (c : Car) → start_before w ≡ gives c → (c.settings.towing ≡ false) × (start_of w ≡ gives c)
   pub bit : (c : Car) → start_of w ≡ gives c → c.settings.towing ≡ eqb (bit_3 w) 1

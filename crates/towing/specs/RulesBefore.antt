@@ -127,12 +127,12 @@ listing_before bs = pick (ltb (length bs) 4) (refused_text 17) (started_before (
 
 -- ---- what is promised
 -- of a good car alone and words: each goes as before
-pub record Words (c : Car) (ws : List ℕ) : Type 0 where
+pub record AloneAsBefore (c : Car) (ws : List ℕ) : Type 0 where
   pub each : (us : List ℕ) (w : ℕ) (vs : List ℕ) → ws ≡ us ++ w ∷ vs → step_of (driven c us) w ≡ step_before (driven c us) w
   pub car : driven c ws ≡ driven_before c ws
   pub answers : answers_of c ws ≡ answers_before c ws
 
 -- of a file: one from before, whose settings word has no bit 3, is listed as before, and the lister from before refuses any with the bit
-pub record Files (bs : List ℕ) : Type 0 where
+pub record FilesAsBefore (bs : List ℕ) : Type 0 where
   pub old : bit_3 (word_at bs 0) ≡ 0 → listing_of bs ≡ listing_before bs
   pub towing : bit_3 (word_at bs 0) ≡ 1 → listing_before bs ≡ refused_text 17
