@@ -103,12 +103,12 @@ static inline uint32_t cruise_at_most(uint32_t value, uint32_t bound) { return v
    a word of the same kind that is refused, an event word with 3 (ready above 1: with 2) and the settings word with 17. */
 
 /* A flag, 0 or 1, at its bit of a settings word; any other value gives bit 4, which is unnamed. */
-static inline uint32_t cruise_settings_flag(uint32_t flag, uint32_t bit) { return flag < 2 ? flag << bit : 1u << 4; }
+static inline uint32_t cruise_flag(uint32_t flag, uint32_t bit) { return flag < 2 ? flag << bit : 1u << 4; }
 
 /* The settings word of a car alone: mode 1 (normal cruise) or 2 (adaptive) in bits 0-1, signs 0 or 1 in bit 2. */
 static inline uint32_t cruise_word_settings(uint32_t mode, uint32_t signs)
 {
-    return 0xD0000000u | cruise_at_most(mode, 3) | cruise_settings_flag(signs, 2);
+    return 0xD0000000u | cruise_at_most(mode, 3) | cruise_flag(signs, 2);
 }
 
 /* The same with towing, 0 or 1, in bit 3: with 1 the highest desired speed is 1000 instead of 2000. From version 0.9 on: an older version refuses
@@ -116,7 +116,7 @@ static inline uint32_t cruise_word_settings(uint32_t mode, uint32_t signs)
    header: in older ones signs above 1 gave bit 3, to be refused. */
 static inline uint32_t cruise_word_settings_towing(uint32_t mode, uint32_t signs, uint32_t towing)
 {
-    return cruise_word_settings(mode, signs) | cruise_settings_flag(towing, 3);
+    return cruise_word_settings(mode, signs) | cruise_flag(towing, 3);
 }
 
 /* The key to a position, 0..2 (bits 0-1); ready 1 where the radar is ready, which only a key turned on may say (bit 2). */

@@ -25,6 +25,7 @@ use Rattle.car.proofs.LessonLaws.{driven_good}
 use Rattle.car.specs.Rules.{key_turned, lever_desired, up_down_moved, with_foreback, engages, start_desired, engaged, forward, cruise_off, backward, fore_back_moved, brake_pressed, gas_pressed, button_pressed, sign_acts, sign_after, sign_passed, reading_taken, hold_applies, hold_desired, tick_desired, ticked}
 use Rattle.car.proofs.StepLaws.{Stepping, went, stayed, stepping}
 use Rattle.history.proofs.HistoryLaws.{driven_append, driven_at}
+use Rattle.history.proofs.SettingsLaws.{fore_back_kept, brake_kept}
 use Rattle.history.specs.KeptDesired.{input_renews, renews, is_key, renewing, accepted_key, Never, LastWord, renewed, turned, neither, KeptDesired}
 
 -- ---- one event
@@ -140,23 +141,12 @@ module _ (c : Car) where
   event_clears (event.Tick ready) t = no (sym t)
 
   -- the key stays where no word turns it
-  foreback_key : (y : ℕ) → (fore_back_moved c y).key ≡ c.key
-  unfolding fore_back_moved forward engaged backward cruise_off with_foreback with_levers with_limiter with_cruise pick
-  foreback_key y =
-      either (eqb y 1)
-      (λ p. either (engages (with_foreback c y)) (λ r. rw (p, r)) (λ r. rw (p, r)))
-      (λ p. either (eqb y 2) (λ q. rw (p, q)) (λ q. rw (p, q)))
-
-  brake_key : (x : ℕ) → (brake_pressed c x).key ≡ c.key
-  unfolding brake_pressed cruise_off with_pedals with_cruise with_levers pick
-  brake_key x = either (ltb 0 x) (λ e. rw e) (λ e. rw e)
-
   input_key : (i : Input) → eqb (input_kind i) 1 ≡ false → (input_next c i).key ≡ c.key
   unfolding input_next input_kind up_down_moved gas_pressed button_pressed sign_passed reading_taken with_levers with_pedals with_limiter with_cruise with_radar with_gap
   input_key (Key position ready) t = no t
   input_key (UpDown x) t = refl
-  input_key (ForeBack y) t = foreback_key y
-  input_key (Brake x) t = brake_key x
+  input_key (ForeBack y) t = (fore_back_kept c y).1
+  input_key (Brake x) t = (brake_kept c x).1
   input_key (Gas x) t = refl
   input_key (Button limit) t = refl
   input_key (Gap tenths) t = refl

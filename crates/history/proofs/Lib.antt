@@ -6,4 +6,5 @@ pub mod KickDownLaws
 pub mod NeighbourLaws
 pub mod PedalsUpLaws
 pub mod RoundaboutLaws
+pub mod SettingsLaws
 pub mod WarningLaws

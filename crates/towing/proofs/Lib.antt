@@ -1,4 +1,3 @@
-pub mod SettingsLaws
 pub mod ReadersBeforeLaws
 pub mod RulesBeforeLaws
 pub mod TowingLaws

@@ -28,7 +28,7 @@ use Rattle.exercise.specs.Exercise.{events_text, lesson_text, started_text, list
 use Rattle.towing.specs.ReadersBefore.{start_before, bit_3}
 use Rattle.towing.specs.RulesBefore.{lever_before, up_down_before, forward_before, fore_back_before, sign_before, hold_before, held_before, ticked_before, input_before, event_before, reading_before, step_before, driven_before, answers_before, events_before, started_before, listing_before, AloneAsBefore, FilesAsBefore}
 use Rattle.towing.proofs.ReadersBeforeLaws.{settings_words, bit_word}
-use Rattle.towing.proofs.SettingsLaws.{step_settings, driven_settings}
+use Rattle.history.proofs.SettingsLaws.{step_settings, driven_settings}
 
 -- a sign's D needs no cut at a ceiling of 1300 or more that D and E keep to
 sign_gives_le : (s d e k : ℕ) → d ≤ k → e ≤ k → 1300 ≤ k → sign_gives s d e ≤ k

@@ -16,7 +16,7 @@ use Rattle.settling.specs.Settling.{LeftAlone, AcceptedTicks, Settles}
 use Rattle.settling.specs.CruiseSpeed.{enough_for}
 use Rattle.settling.proofs.SettlingLaws.{settles_over}
 use Rattle.towing.specs.Towing.{Towed, TowedAlways}
-use Rattle.towing.proofs.SettingsLaws.{driven_settings}
+use Rattle.history.proofs.SettingsLaws.{driven_settings}
 
 ceiling_towing : (c : Car) → c.settings.towing ≡ true → ceiling_of c.settings ≡ 1000
 unfolding ceiling_of

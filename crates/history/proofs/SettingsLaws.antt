@@ -1,4 +1,4 @@
--- No word changes the settings, nor does a list of words.
+-- No word changes the settings, nor does a list of words; the fore-back lever and the brake do not touch the key either.
 -- Assumes nothing.
 use Rattle.std.specs.Prelude.{◌≡◌, refl, List, [], ◌∷◌, ℕ, eqb, ltb}
 use Rattle.std.proofs.Common.{◌∙◌}
@@ -15,23 +15,23 @@ use Rattle.car.specs.Rules.{key_turned, up_down_moved, with_foreback, engages, e
 use Rattle.car.proofs.StepLaws.{Stepping, went, stayed, stepping}
 
 module _ (c : Car) where
-  fore_back_settings : (y : ℕ) → (fore_back_moved c y).settings ≡ c.settings
+  pub fore_back_kept : (y : ℕ) → ((fore_back_moved c y).settings ≡ c.settings) × ((fore_back_moved c y).key ≡ c.key)
   unfolding fore_back_moved forward engaged backward cruise_off with_foreback with_levers with_limiter with_cruise pick
-  fore_back_settings y =
+  fore_back_kept y =
       either (eqb y 1)
-      (λ p. either (engages (with_foreback c y)) (λ r. rw (p, r)) (λ r. rw (p, r)))
-      (λ p. either (eqb y 2) (λ q. rw (p, q)) (λ q. rw (p, q)))
+      (λ p. either (engages (with_foreback c y)) (λ r. rw (p, r) (refl, refl)) (λ r. rw (p, r) (refl, refl)))
+      (λ p. either (eqb y 2) (λ q. rw (p, q) (refl, refl)) (λ q. rw (p, q) (refl, refl)))
 
-  brake_settings : (x : ℕ) → (brake_pressed c x).settings ≡ c.settings
+  pub brake_kept : (x : ℕ) → ((brake_pressed c x).settings ≡ c.settings) × ((brake_pressed c x).key ≡ c.key)
   unfolding brake_pressed cruise_off with_pedals with_cruise with_levers pick
-  brake_settings x = either (ltb 0 x) (λ e. rw e) (λ e. rw e)
+  brake_kept x = either (ltb 0 x) (λ e. rw e (refl, refl)) (λ e. rw e (refl, refl))
 
   input_settings : (i : Input) → (input_next c i).settings ≡ c.settings
   unfolding input_next key_turned up_down_moved gas_pressed button_pressed sign_passed reading_taken with_levers with_pedals with_limiter with_cruise with_radar with_gap
   input_settings (Key position ready) = refl
   input_settings (UpDown x) = refl
-  input_settings (ForeBack y) = fore_back_settings y
-  input_settings (Brake x) = brake_settings x
+  input_settings (ForeBack y) = (fore_back_kept y).0
+  input_settings (Brake x) = (brake_kept x).0
   input_settings (Gas x) = refl
   input_settings (Button limit) = refl
   input_settings (Gap tenths) = refl
