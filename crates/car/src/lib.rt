@@ -24,9 +24,9 @@ use event::Refusal;
 
 #[derive(Clone, Copy)]
 pub struct Settings {
-    pub towing: bool,
     pub mode: u32, // 1 normal cruise, 2 adaptive
     pub signs: bool,
+    pub towing: bool,
 }
 
 #[derive(Clone, Copy)]
