@@ -50,9 +50,9 @@ impl Fields {
         Some(record)
     }
 
-    /// The car, if an accepted record gives it.
+    /// The car, if an accepted record gives it; one with G = 30 none does.
     pub fn car(&self) -> Option<Car> {
-        Car::read(&self.record()?)
+        Car::read(&self.record()?).filter(|car| Fields::of(car) == *self)
     }
 
     /// The fields with one changed; none if it has no such name.
@@ -199,7 +199,7 @@ fn seen(fields: Fields, sighting: Sighting) -> Outcome {
     Outcome {
         refusal: seen.err().unwrap_or(0),
         event: sighting.reading().ok().flatten().map(Reading::word),
-        car: Some(Fields::of(&seen.unwrap_or(car))),
+        car: Some(Fields::of(&seen.ok().flatten().unwrap_or(car))),
         ..Outcome::default()
     }
 }

@@ -141,7 +141,7 @@ fn fresh_case(bench: &mut Bench, random: &mut Random) -> Result<(), Difference> 
 fn walk_case(bench: &mut Bench, random: &mut Random) -> Result<(), Difference> {
     let mut driver = Driver::new(random);
     let mut car = random::good_car(random);
-    let mut record = Buffer::holding(random, &car.write());
+    let mut record = Buffer::record(random, &car);
     for _ in 0..500 + random.below(4000) {
         let word = driver.word(random, &car);
         car = bench.drive(Some(car), &mut record, word)?.unwrap_or(car);
@@ -157,7 +157,7 @@ fn walk_case(bench: &mut Bench, random: &mut Random) -> Result<(), Difference> {
 fn lesson_case(bench: &mut Bench, random: &mut Random) -> Result<(), Difference> {
     let mut driver = Driver::new(random);
     let mut car = random::good_car(random);
-    let mut record = Buffer::holding(random, &car.write());
+    let mut record = Buffer::record(random, &car);
     for _ in 0..6 {
         let count = random.pick(&[0, 1, 2, 10, 100, 700, 3000]);
         let words = random::lesson_words(random, &mut driver, car, count);
@@ -176,7 +176,7 @@ fn damaged_case(bench: &mut Bench, random: &mut Random) -> Result<(), Difference
         bench.test(car, &record)?;
         bench.figures(car, &record)?;
         let other_car = random::good_car(random);
-        let other = Buffer::holding(random, &other_car.write());
+        let other = Buffer::record(random, &other_car);
         bench.alike(car, &record, Some(other_car), &other)?;
         bench.alike(Some(other_car), &other, car, &record)?;
         bench.alike(car, &record, car, &record)?;
@@ -191,7 +191,8 @@ fn damaged_case(bench: &mut Bench, random: &mut Random) -> Result<(), Difference
 /// Cars put together field by field, good and bad, with a few words and a lesson from each.
 fn cars_case(bench: &mut Bench, random: &mut Random) -> Result<(), Difference> {
     for _ in 0..40 {
-        let mut words = random::made_car(random).write();
+        let car = random::made_car(random);
+        let mut words = random::record(random, &car);
         for _ in 0..random.below(3) {
             random.pick(&FIELDS).change(random, &mut words);
         }
@@ -215,7 +216,7 @@ fn cars_case(bench: &mut Bench, random: &mut Random) -> Result<(), Difference> {
 /// Pairs of cars that differ in one field, each field in turn, and a pair of any two.
 fn alike_case(bench: &mut Bench, random: &mut Random) -> Result<(), Difference> {
     let car = random::good_car(random);
-    let record = Buffer::holding(random, &car.write());
+    let record = Buffer::record(random, &car);
     for field in FIELDS {
         let mut words = car.write();
         for _ in 0..8 {
@@ -232,7 +233,7 @@ fn alike_case(bench: &mut Bench, random: &mut Random) -> Result<(), Difference> 
         bench.alike(other_car, &other, Some(car), &record)?;
     }
     let other_car = random::good_car(random);
-    let other = Buffer::holding(random, &other_car.write());
+    let other = Buffer::record(random, &other_car);
     bench.alike(Some(car), &record, Some(other_car), &other)?;
     stay_alike(bench, random, car)
 }
@@ -242,7 +243,7 @@ fn alike_case(bench: &mut Bench, random: &mut Random) -> Result<(), Difference> 
 fn stay_alike(bench: &mut Bench, random: &mut Random, car: Car) -> Result<(), Difference> {
     let mut driver = Driver::new(random);
     let mut cars = [car, random::moved_in_time(random, &car)];
-    let mut records = cars.map(|car| Buffer::holding(random, &car.write()));
+    let mut records = cars.map(|car| Buffer::record(random, &car));
     for _ in 0..200 {
         bench.alike(Some(cars[0]), &records[0], Some(cars[1]), &records[1])?;
         let word = driver.word(random, &cars[0]);
@@ -298,7 +299,10 @@ fn copy_case(bench: &mut Bench, random: &mut Random) -> Result<(), Difference> {
 /// Marks of a lesson, whole and cut in two, from a record that is now and then damaged or of a wrong length.
 fn mark_case(bench: &mut Bench, random: &mut Random) -> Result<(), Difference> {
     let (car, words) = marked_lesson(random);
-    let record = if random.once_in(4) { random::damaged_record(random) } else { car.write().to_vec() };
+    let record = match random.below(4) {
+        0 => random::damaged_record(random),
+        _ => random::record(random, &car).to_vec(),
+    };
     let found = bench.read(&record);
     let record = Buffer::holding(random, &record);
     let (seconds, _) = found.unwrap_or(car).seconds(&words);
@@ -328,7 +332,7 @@ fn sighting_case(bench: &mut Bench, random: &mut Random) -> Result<(), Differenc
 fn see_case(bench: &mut Bench, random: &mut Random) -> Result<(), Difference> {
     let mut driver = Driver::new(random);
     let mut car = random::good_car(random);
-    let mut record = Buffer::holding(random, &car.write());
+    let mut record = Buffer::record(random, &car);
     for _ in 0..200 {
         car = bench.see(Some(car), &mut record, random::sighting(random))?.unwrap_or(car);
         for _ in 0..random.below(3) {
@@ -421,6 +425,12 @@ impl Buffer {
         words.extend_from_slice(contents);
         words.resize(contents.len() + 2 * MARGIN, GUARD);
         Buffer { expected: words.clone(), words, is_null: contents.is_empty() && random.once_in(2) }
+    }
+
+    /// A buffer with a record that gives this car.
+    fn record(random: &mut Random, car: &Car) -> Buffer {
+        let record = random::record(random, car);
+        Buffer::holding(random, &record)
     }
 
     fn random(random: &mut Random, length: usize) -> Buffer {
@@ -569,6 +579,13 @@ impl Bench<'_> {
         car
     }
 
+    /// The record as it is before a call on the car that it gives; one that is not this car's own is counted.
+    fn lent(&mut self, call: Call, car: Option<Car>, record: &Buffer) -> Vec<u32> {
+        let record = record.expected();
+        self.tally.old_gaps[call as usize] += u64::from(car.is_some_and(|car| car.write() != record));
+        record.to_vec()
+    }
+
     fn fresh(&mut self, settings: u32, record: &mut Buffer) -> Result<Option<Car>, Difference> {
         let before = input(record.expected(), record.is_null);
         let (refusal, car) = match Car::start(settings) {
@@ -592,6 +609,7 @@ impl Bench<'_> {
 
     /// One word for the car that the record holds, none if it is not accepted. Gives the car afterwards.
     fn drive(&mut self, car: Option<Car>, record: &mut Buffer, word: u32) -> Result<Option<Car>, Difference> {
+        let before = self.lent(Call::Drive, car, record);
         let (refusal, next) = match car.ok_or(18).and_then(|car| car.drive(word)) {
             Ok(next) => (0, Some(next)),
             Err(refusal) => (refusal, car),
@@ -603,7 +621,7 @@ impl Bench<'_> {
         self.tally.count(Call::Drive, refusal);
         self.judge(
             given == refusal && record.is_as_expected(),
-            || format!("cruise_drive word {word:08X} record {}", before(car, record)),
+            || format!("cruise_drive word {word:08X} record {}", input(&before, record.is_null)),
             || format!("{refusal} record {}", hex(record.expected())),
             || format!("{given} record {}", found(record)),
         )?;
@@ -632,6 +650,7 @@ impl Bench<'_> {
         count: usize,
         answers: &mut Buffer,
     ) -> Result<Option<Car>, Difference> {
+        let before = self.lent(Call::Lesson, car, record);
         let kept = answers.expected().to_vec();
         let words = all.lend().map(|all| &all[start..start + count]);
         let lesson = car.ok_or(18).and_then(|car| car.lesson(words.unwrap_or(&[]), answers.expected_mut()));
@@ -663,7 +682,7 @@ impl Bench<'_> {
                     "cruise_lesson words {} (from {start} of the caller's) room {} record {}{}",
                     count,
                     kept.len(),
-                    before(car, record),
+                    input(&before, record.is_null),
                     lesson_place(place, words.unwrap_or(&[]), car, self.shown),
                 )
             },
@@ -693,18 +712,20 @@ impl Bench<'_> {
     }
 
     fn test(&mut self, car: Option<Car>, record: &Buffer) -> Result<(), Difference> {
+        let before = self.lent(Call::Test, car, record);
         let refusal = if car.is_some() { 0 } else { 18 };
         let given = library::test(record.lend());
         self.tally.count(Call::Test, refusal);
         self.judge(
             given == refusal && record.is_as_expected(),
-            || format!("cruise_test record {}", before(car, record)),
+            || format!("cruise_test record {}", input(&before, record.is_null)),
             || format!("{refusal}"),
             || format!("{given} record {}", found(record)),
         )
     }
 
     fn figures(&mut self, car: Option<Car>, record: &Buffer) -> Result<(), Difference> {
+        let before = self.lent(Call::Figures, car, record);
         let refusal = if car.is_some() { 0 } else { 18 };
         let expected: [u32; 13] = match car.map(|car| car.figures()) {
             None => between_guards(&[0; 6]),
@@ -721,7 +742,7 @@ impl Bench<'_> {
         self.tally.count(Call::Figures, refusal);
         self.judge(
             given == refusal && out == expected && record.is_as_expected(),
-            || format!("cruise_figures record {}", before(car, record)),
+            || format!("cruise_figures record {}", input(&before, record.is_null)),
             || format!("{refusal} {}", figure_text(&expected)),
             || format!("{given} {} record {}", figure_text(&out), found(record)),
         )
@@ -734,6 +755,7 @@ impl Bench<'_> {
         b: Option<Car>,
         b_record: &Buffer,
     ) -> Result<(), Difference> {
+        let befores = [(a, a_record), (b, b_record)].map(|(car, record)| self.lent(Call::Alike, car, record));
         let (refusal, alike) = match (a, b) {
             (Some(a), Some(b)) => (0, u32::from(a.alike(&b))),
             _ => (18, 0),
@@ -746,7 +768,10 @@ impl Bench<'_> {
                 && out == between_guards(&[alike])
                 && a_record.is_as_expected()
                 && b_record.is_as_expected(),
-            || format!("cruise_alike a {}\n        b {}", before(a, a_record), before(b, b_record)),
+            || {
+                let [a, b] = [input(&befores[0], a_record.is_null), input(&befores[1], b_record.is_null)];
+                format!("cruise_alike a {a}\n        b {b}")
+            },
             || format!("{refusal} alike {alike}"),
             || {
                 let guards = complaint(out[0] == GUARD && out[2] == GUARD, " GUARDS OVERWRITTEN");
@@ -866,6 +891,7 @@ impl Bench<'_> {
         mark: u32,
     ) -> Result<(), Difference> {
         let words = all.lend().map(|all| &all[start..start + count]);
+        let before = self.lent(Call::Mark, Car::read(record.expected()), record);
         let refusal = if passing.is_some() { 0 } else { 18 };
         let Passing { event, seconds } = passing.unwrap_or(Passing { event: None, seconds: 0 });
         let (given, out) = library::mark(record.lend(), words, mark);
@@ -879,7 +905,7 @@ impl Bench<'_> {
                 && all.is_as_expected(),
             || {
                 let words = word_count(words.unwrap_or(&[]), self.shown);
-                let record = input(record.expected(), record.is_null);
+                let record = input(&before, record.is_null);
                 format!("cruise_mark mark {mark} record {record} (from {start} of the caller's) {words}")
             },
             || format!("{refusal} event {} seconds {seconds}", event.unwrap_or(0)),
@@ -937,20 +963,20 @@ impl Bench<'_> {
     /// A sighting for the car that the record holds, none if it is not accepted. Gives the car afterwards.
     fn see(&mut self, car: Option<Car>, record: &mut Buffer, numbers: [u32; 3]) -> Result<Option<Car>, Difference> {
         let [kind, metres, kmh] = numbers;
+        let before = self.lent(Call::See, car, record);
         let sighting = Sighting::new(kind, metres, kmh).ok_or(1u32);
-        let (refusal, next) = match car.ok_or(18).and_then(|car| car.see(sighting?)) {
-            Ok(next) => (0, Some(next)),
-            Err(refusal) => (refusal, car),
-        };
-        if let (0, Some(next)) = (refusal, next) {
+        let seen = car.ok_or(18).and_then(|car| car.see(sighting?));
+        // A fault leaves the record as it is.
+        if let Ok(Some(next)) = seen {
             record.expect(&next);
         }
+        let (refusal, next) = (seen.err().unwrap_or(0), seen.ok().flatten().or(car));
         let given = library::see(record.lend_mut(), kind, metres, kmh);
         self.tally.count(Call::See, refusal);
         self.tally.faults_driven += u64::from(refusal == 0 && sighting == Ok(Sighting::Fault));
         self.judge(
             given == refusal && record.is_as_expected(),
-            || format!("cruise_see {} record {}", sighting_text(numbers), before(car, record)),
+            || format!("cruise_see {} record {}", sighting_text(numbers), input(&before, record.is_null)),
             || format!("{refusal} record {}", hex(record.expected())),
             || format!("{given} record {}", found(record)),
         )?;
@@ -982,14 +1008,6 @@ fn driven(settings: u32, words: &[u32]) -> (u32, usize, [u32; 12]) {
 fn word_count(words: &[u32], shown: bool) -> String {
     let all = if shown { format!(" {}", hex(words)) } else { String::new() };
     format!("words {}{all}", words.len())
-}
-
-/// The record as it was before a call on this car.
-fn before(car: Option<Car>, record: &Buffer) -> String {
-    match car {
-        Some(car) => input(&car.write(), false),
-        None => input(record.expected(), record.is_null),
-    }
 }
 
 fn figure_text(cells: &[u32; 13]) -> String {
@@ -1035,13 +1053,15 @@ enum Call {
 const CALL_NAMES: [&str; 10] =
     ["fresh", "drive", "lesson", "test", "figures", "alike", "copy", "mark", "sighting", "see"];
 /// The refusals that a function gives, 0 for none; 21 is the programs'.
-const REFUSALS: usize = 24;
+const REFUSALS: usize = 25;
 
 #[derive(Default)]
 struct Tally {
     cases: [u64; KINDS.len()],
     /// Calls answered, by function and refusal.
     calls: [[u64; REFUSALS]; CALL_NAMES.len()],
+    /// Calls on accepted records that hold the gap 30, by function.
+    old_gaps: [u64; CALL_NAMES.len()],
     /// Words of lessons that ran, by refusal.
     answers: [u64; REFUSALS],
     /// Records that the model refused and accepted.
@@ -1093,7 +1113,8 @@ impl Tally {
         for ((_, name), count) in KINDS.iter().zip(self.cases) {
             println!("  {count:>9} cases {name}");
         }
-        let driven: u64 = self.calls[Call::Drive as usize][..17].iter().sum();
+        let drives = self.calls[Call::Drive as usize];
+        let driven = drives.iter().sum::<u64>() - drives[18];
         let in_lessons: u64 = self.answers.iter().sum();
         println!("  {driven:>9} words driven singly, {in_lessons} in lessons, {} in tuned lessons", self.tuned_words);
         println!("  {:>9} records made by hand accepted, {} refused", self.records[1], self.records[0]);
@@ -1117,5 +1138,8 @@ impl Tally {
             self.calls.iter().for_each(|counts| print!("{:>10}", counts[refusal]));
             println!("{:>14}", self.answers[refusal]);
         }
+        print!("{:>8}", "gap 30");
+        self.old_gaps.iter().for_each(|count| print!("{count:>10}"));
+        println!();
     }
 }

@@ -31,9 +31,21 @@ impl Page {
 
 pub fn event_words(input: &[u8]) -> Result<Vec<u8>, String> {
     let mut page = Page::default();
-    for word in words_of(input) {
-        // An event has all bits of its word that are not fixed, so it is written as the same word again.
-        page.tight(&[Event::read(word).err().unwrap_or(0), 1]);
+    let input = words_of(input);
+    let split = input.split_first().and_then(|(&count, rest)| rest.split_at_checked(count as usize));
+    let (words, events) = split.ok_or("event_words: fewer words than it says")?;
+    for &word in words {
+        match Event::read(word) {
+            Ok(event) => page.tight(&[0, u32::from(event.word() == word)]),
+            Err(refusal) => page.tight(&[refusal, 1]),
+        }
+    }
+    for event in events.chunks(3) {
+        let &[kind @ 1..=10, value, second] = event else {
+            return Err(String::from("event_words: an event of no kind or of fewer than three words"));
+        };
+        let written = Event::of(kind, value, second).map(Event::word);
+        page.tight(&[written.err().unwrap_or(0), written.unwrap_or(0)]);
     }
     Ok(page.0)
 }
@@ -239,11 +251,11 @@ fn lend(page: &mut Page, call: &[u32], words: &mut [u32]) {
         2 => {
             let made =
                 Car::fresh(call[2], call[3], call[4]).and_then(|car| if words.len() < 12 { Err(20) } else { Ok(car) });
-            page.numbers(&[store(words, made)]).end();
+            page.numbers(&[store(words, made.map(Some))]).end();
         }
         3 => {
             let driven = car.ok_or(18).and_then(|car| car.drive(call[2]));
-            page.numbers(&[store(words, driven)]).end();
+            page.numbers(&[store(words, driven.map(Some))]).end();
         }
         5 => {
             let sighting = Sighting::new(call[2], call[3], call[4]).ok_or(1u32);
@@ -254,21 +266,18 @@ fn lend(page: &mut Page, call: &[u32], words: &mut [u32]) {
             let mut answers = [UNUSED; 16];
             let taught = car.ok_or(18).and_then(|car| car.lesson(&call[4..], &mut answers[..call[2] as usize]));
             let counts = taught.map_or([0, 0], |lesson| [lesson.accepted as u32, lesson.refused as u32]);
-            page.numbers(&[store(words, taught.map(|lesson| lesson.car))]).numbers(&counts).end();
+            page.numbers(&[store(words, taught.map(|lesson| Some(lesson.car)))]).numbers(&counts).end();
             page.numbers(&answers).end();
         }
     }
 }
 
-/// Stores the record of a car that was not refused. Gives the refusal.
-fn store(words: &mut [u32], car: Result<Car, u32>) -> u32 {
-    match car {
-        Ok(car) => {
-            words[..12].copy_from_slice(&car.write());
-            0
-        }
-        Err(refusal) => refusal,
+/// Stores the record of a car that was not refused; a fault has none, and the words are kept. Gives the refusal.
+fn store(words: &mut [u32], car: Result<Option<Car>, u32>) -> u32 {
+    if let Ok(Some(car)) = car {
+        words[..12].copy_from_slice(&car.write());
     }
+    car.err().unwrap_or(0)
 }
 
 /// The test's answer about the words, the figures', and that of alike with the words before.

@@ -5,7 +5,7 @@ use crate::calls::{run_all, Call, Copy, Fields, Mark, Outcome, Pair, Settings, S
 use crate::exercise::{bytes_of, words_of};
 use crate::expected::{split_calls, split_cruise_calls};
 use crate::outside::{listed_passing, Folder, Listed};
-use crate::paper::{Car, Passing, Sighting};
+use crate::paper::{Car, Event, Passing, Sighting};
 use std::fs;
 use std::ops::Range;
 
@@ -19,11 +19,30 @@ pub fn stdin(name: &str) -> Result<Vec<u8>, String> {
     read(&format!("crates/{name}/stdin"))
 }
 
-/// The event words of two exercise files.
+/// Gap words added by hand: 30, its neighbours, 30 with an unnamed bit, no gap and the two that there are.
+const GAP_WORDS: [u32; 7] = [0x7000_001E, 0x7000_001D, 0x7000_001F, 0x7000_003E, 0x7000_0000, 0x7000_0014, 0x7000_0019];
+
+/// The event words of two exercise files and those added by hand, behind their number; then the events to be written.
 pub fn event_words(folder: &Folder) -> Result<Vec<u8>, String> {
-    match (folder.bytes("every-kind-every-low-bit.bin")?, folder.bytes("random-words.bin")?) {
-        (Some(first), Some(second)) => Ok([first.get(4..), second.get(4..)].map(Option::unwrap_or_default).concat()),
-        _ => stdin("event_words"),
+    let files = ["every-kind-every-low-bit.bin", "random-words.bin"];
+    let (true, Some(written)) = (files.iter().all(|name| folder.has(name)), folder.written()?) else {
+        return stdin("event_words");
+    };
+    let mut words = Vec::new();
+    for name in files {
+        words.extend(words_of(&folder.bytes(name)?.unwrap_or_default()).into_iter().skip(1));
+    }
+    words.extend(GAP_WORDS);
+    let events = written.into_iter().filter(has_bit).flatten();
+    Ok(bytes_of(&[words.len() as u32].into_iter().chain(words).chain(events).collect::<Vec<_>>()))
+}
+
+/// Is the ready bit of an event, if it has one, a bit?
+fn has_bit(&[kind, value, second]: &[u32; 3]) -> bool {
+    match kind {
+        1 => second < 2,
+        10 => value < 2,
+        _ => true,
     }
 }
 
@@ -76,8 +95,8 @@ pub fn record_words(folder: &Folder) -> Result<Vec<u8>, String> {
 /// Document 01's car of the visual warning, the first of the cars added by hand.
 const TABLE_CAR: Fields = Fields([2, 0, 0, 2, 0, 0, 0, 0, 0, 0, 1, 1, 500, 0, 500, 0, 0, 0, 19, 300, 0, 20, 0, 0]);
 
-/// The cars of the records that have a record's form, the cars after the words that calls drive, and the cars added by
-/// hand, which are kept.
+/// The cars of the records that have a record's form, the cars after the words that calls drive, but for those that a good
+/// car refuses, and the cars added by hand, which are kept.
 pub fn car_figures(folder: &Folder) -> Result<Vec<u8>, String> {
     let cars = figure_cars(folder)?;
     Ok(bytes_of(&cars.iter().flat_map(|car| car.0).collect::<Vec<_>>()))
@@ -92,7 +111,7 @@ fn figure_cars(folder: &Folder) -> Result<Vec<Fields>, String> {
     let by_hand = present.iter().position(|car| *car == TABLE_CAR).ok_or("car_figures: no car of the table")?;
     let mut cars: Vec<Fields> = records.iter().filter_map(|record| Fields::of_record(record)).collect();
     for (call, outcome) in chosen_calls(&calls) {
-        if matches!(call, Call::Drive(_)) {
+        if matches!(call, Call::Drive(_)) && matches!(outcome.refusal, 0 | 18) {
             cars.extend(outcome.car);
         }
     }
@@ -224,15 +243,18 @@ fn sights() -> Result<Vec<u32>, String> {
 const PAIR_CALLS: usize = 2 * 8;
 /// Behind each lesson that ran and whose number among these, from 0, is a multiple of this come calls that lend too few
 /// words or too many.
-const LESSONS_BETWEEN: usize = 40;
+const LESSONS_BETWEEN: usize = 100;
+/// Of the lessons with too little room for answers those whose number among these, from 0, is a multiple of this, for want
+/// of room for more.
+const SHORT_LESSONS_BETWEEN: usize = 3;
 const TICK: u32 = 0xA000_0001;
 /// How many cars with the visual warning alone, and how many with both.
 const WARNINGS: usize = 10;
 /// Of the refused sightings those whose number among these, from 0, is a multiple of this, for want of room for more.
 const SIGHTS_BETWEEN: usize = 16;
 
-/// Fresh cars in buffers of all sizes, which are kept; the calls; sightings added by hand; some of the records; cars with
-/// warnings; and pairs of cars, which are kept.
+/// Fresh cars in buffers of all sizes, which are kept; the calls; sightings and records with the gap 30 added by hand; some
+/// of the records; cars with warnings; and pairs of cars, which are kept.
 pub fn cruise_calls(folder: &Folder) -> Result<Vec<u8>, String> {
     let (Some(records), Some(calls)) = (folder.records()?, folder.calls("calls")?) else {
         return stdin("cruise_calls");
@@ -243,6 +265,7 @@ pub fn cruise_calls(folder: &Folder) -> Result<Vec<u8>, String> {
     let mut words = present[..first_call(&present).ok_or("cruise_calls: no calls")?].concat();
     words.extend(lent_calls(&calls)?);
     words.extend(lent_sights()?);
+    words.extend(old_gap_calls()?);
     for record in chosen_records(&records) {
         words.extend(set(record));
     }
@@ -266,10 +289,12 @@ fn first_call(present: &[&[u32]]) -> Option<usize> {
 }
 
 /// Calls as `cruise_calls` reads them: all thirteen words are set anew before a car is made; a car without check and one
-/// that is read are set as records; record calls and most refused sightings are left out.
+/// that is read are set as records; record calls, most lessons with too little room and most refused sightings are left
+/// out.
 fn lent_calls(calls: &[Call]) -> Result<Vec<u32>, String> {
     let mut words = Vec::new();
     let mut ran = 0;
+    let mut short = 0;
     let mut not_seen = 0;
     for (call, outcome) in chosen_calls(calls) {
         match call {
@@ -281,8 +306,12 @@ fn lent_calls(calls: &[Call]) -> Result<Vec<u32>, String> {
             }
             Call::Drive(word) => words.extend([3, 12, *word]),
             Call::Lesson { room, words: events } => {
-                words.extend([4, 12, *room as u32, events.len() as u32]);
-                words.extend(events);
+                let is_short = outcome.refusal == 19;
+                if !is_short || short % SHORT_LESSONS_BETWEEN == 0 {
+                    words.extend([4, 12, *room as u32, events.len() as u32]);
+                    words.extend(events);
+                }
+                short += usize::from(is_short);
                 if outcome.refusal == 0 {
                     words.extend(if ran % LESSONS_BETWEEN == 0 { wrongly_lent() } else { Vec::new() });
                     ran += 1;
@@ -325,8 +354,6 @@ const OTHER_KINDS: [[u32; 3]; 6] = [
 /// with 18, with 0, 11 and 13 words lent and on the car that is not good.
 fn lent_sights() -> Result<Vec<u32>, String> {
     let [ready, not_ready, key_out, bad] = sighted_cars()?;
-    let set_car =
-        |car: Fields| car.record().map(|record| set(&record)).ok_or("cruise_calls: a car that no record shows");
     let mut words = Vec::new();
     for car in [not_ready, key_out, ready] {
         words.extend(set_car(car)?);
@@ -339,6 +366,55 @@ fn lent_sights() -> Result<Vec<u32>, String> {
         }
         let not_driven = [SIGHTINGS[0], SIGHTINGS[4], SIGHTINGS[7], OTHER_KINDS[0], OTHER_KINDS[4]];
         words.extend(not_driven.into_iter().flat_map(|sighting| lent_sight(lent, sighting)));
+    }
+    Ok(words)
+}
+
+fn set_car(car: Fields) -> Result<Vec<u32>, &'static str> {
+    car.record().map(|record| set(&record)).ok_or("cruise_calls: a car that no record shows")
+}
+
+/// A car that is close with G 30 and not with 25, where the next second is a faster one.
+fn old_gap_car(gap: u32) -> Result<Fields, String> {
+    changed(TABLE_CAR, &[("D", 600), ("W", 600), ("R", 34), ("G", gap)])
+}
+
+/// Words that the car with its radar ready refuses, 30 among them, and some that it takes.
+const REFUSED_THERE: [u32; 4] = [0x7000_001E, 0x7000_001F, 0xA000_0000, 0x4000_0000];
+const TAKEN_THERE: [u32; 3] = [TICK, 0x7000_0014, 0x8000_0000];
+
+/// On a record that holds the gap 30: behind the one that it is written as, calls that keep it; one call that stores a car
+/// on each of some more; cars that refuse a sighting; and records with other damage.
+fn old_gap_calls() -> Result<Vec<u32>, String> {
+    let old = set_car(old_gap_car(30)?)?;
+    let mut words = [set_car(old_gap_car(25)?)?, old.clone()].concat();
+    for word in REFUSED_THERE {
+        words.extend([3, 12, word]);
+    }
+    for sighting in [SIGHTINGS[3], SIGHTINGS[5], SIGHTINGS[7], OTHER_KINDS[0]] {
+        words.extend(lent_sight(12, sighting));
+    }
+    words.extend([4, 12, 1, 2, TICK, TICK]);
+    words.extend([3, 11, TICK, 3, 13, TICK, 4, 13, 1, 1, TICK]);
+    words.extend(lent_sight(11, SIGHTINGS[0]));
+    let mut storing: Vec<Vec<u32>> = TAKEN_THERE.map(|word| vec![3, 12, word]).into();
+    storing.extend([vec![4, 12, 0, 0], vec![4, 12, 1, 0], [&[4, 12, 4, 4], &REFUSED_THERE[..]].concat()]);
+    storing.push(vec![4, 12, 3, 3, REFUSED_THERE[0], TICK, REFUSED_THERE[0]]);
+    storing.extend([SIGHTINGS[0], SIGHTINGS[6]].map(|sighting| lent_sight(12, sighting).to_vec()));
+    for call in storing {
+        words.extend(&old);
+        words.extend(call);
+    }
+    let [_, not_ready, key_out, bad] = sighted_cars()?;
+    for car in [not_ready, key_out] {
+        words.extend(set_car(changed(car, &[("G", 30)])?)?);
+        words.extend(lent_sight(12, SIGHTINGS[0]));
+    }
+    words.extend(set_car(changed(bad, &[("G", 30)])?)?);
+    for damage in [1, 1 << 5, 1 << 24, 1 << 28] {
+        let mut damaged = old.clone();
+        damaged[2 + 9] ^= damage;
+        words.extend(damaged);
     }
     Ok(words)
 }
@@ -528,8 +604,8 @@ const MARKED_FILES: [(&str, u32, Chosen); 18] = [
     ("pages-cut", 4096, Chosen::Top),
 ];
 
-/// The outside marks; records that are too short or too long; cars that are not good; lessons with more words than are
-/// worked off at a time; exercise files.
+/// The outside marks; records that are too short or too long; cars that are not good; the gap 30; lessons with more words
+/// than are worked off at a time; exercise files.
 pub fn marks(folder: &Folder) -> Result<Vec<u8>, String> {
     let files = MARKED_FILES.map(|(name, ..)| name).into_iter().chain([LONG_MARKED, CYCLE]);
     let files = files.map(|name| format!("{name}.bin"));
@@ -540,6 +616,7 @@ pub fn marks(folder: &Folder) -> Result<Vec<u8>, String> {
     let mut words: Vec<u32> = marks.iter().chain(&long_marks(folder)?).flat_map(lent_and_on_car).collect();
     words.extend(wrongly_lent_marks(&marks));
     words.extend(bad_car_marks(&folder.calls("calls")?.unwrap_or_default()));
+    words.extend(old_gap_marks()?);
     for at in EDGES {
         words.extend(lent(&passed_at(folder, at, EDGE_WORDS)?));
     }
@@ -609,6 +686,17 @@ fn bad_car_marks(calls: &[Call]) -> Vec<u32> {
     words
 }
 
+/// A mark that the car passes with G 25 and not with 30, for both as records and as cars.
+fn old_gap_marks() -> Result<Vec<u32>, String> {
+    let mut words = Vec::new();
+    for gap in [25, 30] {
+        let fields = old_gap_car(gap)?;
+        let record = fields.record().ok_or("marks: a car that no record shows")?;
+        words.extend(lent_and_on_car(&Mark { mark: 501, start: Start::Record(record.to_vec()), words: vec![TICK; 4] }));
+    }
+    Ok(words)
+}
+
 /// A lesson of so many events of a long exercise file that first passes its mark at its event `at`.
 fn passed_at(folder: &Folder, at: usize, count: usize) -> Result<Mark, String> {
     let events = folder.listed(LONG_MARKED)?;
@@ -662,8 +750,8 @@ const DRIVEN: [u32; 40] = [
 /// On how many of them, for want of room for more.
 const DRIVEN_PAIRS: usize = 80;
 
-/// The outside pairs, and words on those whose cars are alike; pairs at the clock's end and two cars that differ in the
-/// lever time alone, with ticks; pairs of cars as they stand.
+/// The outside pairs, and words on those whose cars are alike; pairs at the clock's end, two cars that differ in the lever
+/// time alone and a car by both its records, with words; pairs of cars as they stand.
 pub fn alikes(folder: &Folder) -> Result<Vec<u8>, String> {
     let Some(pairs) = folder.pairs()? else {
         return stdin("alikes");
@@ -678,6 +766,7 @@ pub fn alikes(folder: &Folder) -> Result<Vec<u8>, String> {
     for pair in ticked_pairs()? {
         words.extend(driven_pair(&pair, &[TICK; 4]));
     }
+    words.extend(driven_pair(&pair_of(old_gap_car(30)?, old_gap_car(25)?)?, &[REFUSED_THERE[0], TICK, TICK]));
     for ([first, second], _) in any_pairs()? {
         words.push(2);
         words.extend(first.0.into_iter().chain(second.0));
@@ -709,8 +798,11 @@ fn ticked_pairs() -> Result<Vec<Pair>, String> {
         [late(86_400)?, late(86_400)?],
         [changed(held, &[("now", 1), ("T", 1)])?, changed(held, &[("now", 1)])?],
     ];
-    let pair = |[first, second]: [Fields; 2]| Pair::of(first, second).ok_or("alikes: a car that no record shows");
-    Ok(pairs.into_iter().map(pair).collect::<Result<_, _>>()?)
+    pairs.into_iter().map(|[first, second]| pair_of(first, second)).collect()
+}
+
+fn pair_of(first: Fields, second: Fields) -> Result<Pair, String> {
+    Pair::of(first, second).ok_or_else(|| String::from("alikes: a car that no record shows"))
 }
 
 /// Now, T and Q of two cars with the lever held and the key on, and whether they are alike: worked out by hand.
@@ -815,8 +907,8 @@ pub fn mark(folder: &Folder) -> Result<Vec<u8>, String> {
     Ok([bytes_of(&words[..1]), bytes_of(&events), vec![1, 0]].concat())
 }
 
-/// Words whose refusals, 1 to 3, are the words' own, whatever the car.
+/// Words whose refusals are the words' own, whatever the car.
 fn not_taken(events: &[Listed]) -> Vec<u32> {
-    let refused = events.iter().filter(|event| (1..=3).contains(&event.refusal)).map(|event| event.word);
+    let refused = events.iter().filter(|event| Event::is_unread(event.refusal)).map(|event| event.word);
     refused.cycle().take(NOT_TAKEN).collect()
 }

@@ -73,6 +73,11 @@ impl Folder {
         self.lines("alike.in", read_pair)
     }
 
+    /// The events of write.in, each its kind and its values, the second 0 where it has one.
+    pub fn written(&self) -> Result<Option<Vec<[u32; 3]>>, String> {
+        self.lines("write.in", read_written)
+    }
+
     /// A file's lines, each as it is read.
     fn lines<T>(&self, name: &str, read: fn(&str) -> Option<T>) -> Result<Option<Vec<T>>, String> {
         let Some(text) = self.text(name)? else {
@@ -179,6 +184,20 @@ fn read_sighting(line: &str) -> Option<Sighting> {
     }
 }
 
+/// The names of the kinds of events, from 1 on.
+const EVENTS: [&str; 10] = ["key", "updown", "foreback", "brake", "gas", "button", "gap", "sign", "radar", "tick"];
+
+fn read_written(line: &str) -> Option<[u32; 3]> {
+    let (name, values) = line.split_once(' ')?;
+    let (kind, _) = (1..).zip(EVENTS).find(|(_, event)| *event == name)?;
+    let values: Vec<u32> = values.split(' ').map(|value| value.parse().ok()).collect::<Option<_>>()?;
+    match (kind, &values[..]) {
+        (1 | 9, &[value, second]) => Some([kind, value, second]),
+        (2..=8 | 10, &[value]) => Some([kind, value, 0]),
+        _ => None,
+    }
+}
+
 fn read_listed(word: u32, line: &str) -> Option<Listed> {
     let mut figures = line.split(' ').skip(1).map(|figure| figure.parse().ok());
     Some(Listed { word, refusal: figures.next()??, speed: figures.next()?? })
@@ -200,7 +219,8 @@ impl Folder {
             + self.hold_copies()?
             + self.hold_marks()?
             + self.hold_sightings()?
-            + self.hold_pairs()?;
+            + self.hold_pairs()?
+            + self.hold_written()?;
         for name in self.names.iter().filter_map(|name| name.strip_suffix(".bin")) {
             lines += self.hold_listing(name)?;
         }
@@ -262,7 +282,15 @@ impl Folder {
         hold_lines("alike.txt", &self.answers("alike.txt")?, &model)
     }
 
-    /// Holds NAME.txt to the model's listing of NAME.bin, and its refusals 1 to 3, which come before all others, to
+    fn hold_written(&self) -> Result<usize, String> {
+        let Some(events) = self.written()? else {
+            return Ok(0);
+        };
+        let model: Vec<String> = events.iter().map(|&event| written_answer(event)).collect();
+        hold_lines("write.txt", &self.answers("write.txt")?, &model)
+    }
+
+    /// Holds NAME.txt to the model's listing of NAME.bin, and its refusals 1 to 3 and 24, which come before all others, to
     /// the model's readings of the words; and the model's clean file of NAME.bin and what it says of marks to NAME.txt.
     fn hold_listing(&self, name: &str) -> Result<usize, String> {
         let file = self.bytes(&format!("{name}.bin"))?.unwrap_or_default();
@@ -275,7 +303,7 @@ impl Folder {
         }
         for (word, line) in words_of(&file).iter().zip(given.lines()).skip(1) {
             let refusal =
-                line.split(' ').nth(1).and_then(|refusal| refusal.parse().ok()).filter(|n| (1..=3).contains(n));
+                line.split(' ').nth(1).and_then(|refusal| refusal.parse().ok()).filter(|&n| Event::is_unread(n));
             let read = Event::read(*word).err();
             if read != refusal {
                 let what = format!("{answers}, word {word:08X}");
@@ -377,6 +405,14 @@ fn pair_answer(pair: &Pair) -> String {
     match pair.alike() {
         Some(alike) => u32::from(alike).to_string(),
         None => String::from("refused 18"),
+    }
+}
+
+/// An event's word as a folder gives it.
+fn written_answer([kind, value, second]: [u32; 3]) -> String {
+    match Event::of(kind, value, second) {
+        Ok(event) => format!("{:08X}", event.word()),
+        Err(refusal) => format!("refused {refusal}"),
     }
 }
 

@@ -7,6 +7,9 @@ pub const CLOCK_END: i32 = 86_400;
 pub const TEST_PERIOD: i32 = 600;
 /// The range of a radar that is not ready.
 pub const NOT_READY: i32 = 255;
+/// The gap that no car offers any more, and the one of the car that a record with it gives.
+pub const OLD_GAP: i32 = 30;
+pub const LONGEST_GAP: i32 = 25;
 
 // ---------------------------------------------------------------- The car and a fresh one
 
@@ -230,12 +233,18 @@ fn at_most(number: u32, top: u32) -> Option<i32> {
     (number <= top).then_some(number as i32)
 }
 
+/// One bit's value.
+fn flag(number: u32) -> Option<bool> {
+    at_most(number, 1).map(|bit| bit == 1)
+}
+
+/// G of a car.
 fn is_gap(number: i32) -> bool {
-    matches!(number, 20 | 25 | 30)
+    matches!(number, 20 | LONGEST_GAP)
 }
 
 impl Event {
-    /// The event of a word, by checks 1 to 3.
+    /// The event of a word, by checks 1 to 3 and 24.
     pub fn read(word: u32) -> Result<Event, u32> {
         // 1: no such kind.
         let kind = word >> 28;
@@ -255,23 +264,58 @@ impl Event {
         if bits(word, 0, 28) >> named_bits != 0 {
             return Err(2);
         }
+        let (value, second) = match kind {
+            1 => (bits(word, 0, 2), bits(word, 2, 1)),
+            9 => (bits(word, 0, 8), bits(word, 8, 13)),
+            _ => (bits(word, 0, named_bits), 0),
+        };
+        Event::of(kind, value, second)
+    }
+
+    /// The event of one of the ten kinds and its values, by checks 3 and 24. The second value is the ready bit of a key and
+    /// the speed of a radar reading.
+    pub fn of(kind: u32, value: u32, second: u32) -> Result<Event, u32> {
         // 3: a value outside its field's range.
         let event = match kind {
-            1 => Key::new(bits(word, 0, 2)).map(|key| Event::Key { key, ready: bits(word, 2, 1) == 1 }),
-            2 => UpDown::new(bits(word, 0, 3)).map(Event::UpDown),
-            3 => ForeBack::new(bits(word, 0, 2)).map(Event::ForeBack),
-            4 => at_most(bits(word, 0, 8), 225).map(Event::Brake),
-            5 => at_most(bits(word, 0, 8), 225).map(Event::Gas),
-            6 => at_most(bits(word, 0, 13), 5000).map(|limit| Event::Button { limit }),
-            7 => at_most(bits(word, 0, 5), 30).filter(|&gap| is_gap(gap)).map(Event::Gap),
-            8 => at_most(bits(word, 0, 11), 2000).map(Event::Sign),
-            9 => match (at_most(bits(word, 0, 8), 254), at_most(bits(word, 8, 13), 5000)) {
-                (Some(range), Some(ahead)) => Some(Event::Radar { range, ahead }),
-                _ => None,
-            },
-            _ => Some(Event::Tick { ready: bits(word, 0, 1) == 1 }),
+            1 => Key::new(value).zip(flag(second)).map(|(key, ready)| Event::Key { key, ready }),
+            2 => UpDown::new(value).map(Event::UpDown),
+            3 => ForeBack::new(value).map(Event::ForeBack),
+            4 => at_most(value, 225).map(Event::Brake),
+            5 => at_most(value, 225).map(Event::Gas),
+            6 => at_most(value, 5000).map(|limit| Event::Button { limit }),
+            7 => at_most(value, 30).filter(|&gap| is_gap(gap) || gap == OLD_GAP).map(Event::Gap),
+            8 => at_most(value, 2000).map(Event::Sign),
+            9 => at_most(value, 254).zip(at_most(second, 5000)).map(|(range, ahead)| Event::Radar { range, ahead }),
+            _ => flag(value).map(|ready| Event::Tick { ready }),
         };
-        event.ok_or(3)
+        let event = event.ok_or(3u32)?;
+        // 24: the gap choice 30.
+        if event == Event::Gap(OLD_GAP) {
+            return Err(24);
+        }
+        Ok(event)
+    }
+
+    /// The event's word.
+    pub fn word(self) -> u32 {
+        let word = |kind: u32, content: u32| kind << 28 | content;
+        match self {
+            Event::Key { key, ready } => word(1, key as u32 | u32::from(ready) << 2),
+            Event::UpDown(lever) => word(2, lever as u32),
+            Event::ForeBack(lever) => word(3, lever as u32),
+            Event::Brake(brake) => word(4, brake as u32),
+            Event::Gas(gas) => word(5, gas as u32),
+            Event::Button { limit } => word(6, limit as u32),
+            Event::Gap(gap) => word(7, gap as u32),
+            Event::Sign(sign) => word(8, sign as u32),
+            Event::Radar { range, ahead } => word(9, range as u32 | (ahead as u32) << 8),
+            Event::Tick { ready } => word(10, u32::from(ready)),
+        }
+    }
+
+    /// Is a refusal one of these, given whatever the car?
+    pub fn is_unread(refusal: u32) -> bool {
+        matches!(refusal, 1..=3 | 24)
     }
 }
 
@@ -771,7 +815,7 @@ impl Car {
         ]
     }
 
-    /// The car of an accepted record, or none.
+    /// The car of an accepted record, or none. One that holds the gap 30 gives a car with 25.
     pub fn read(record: &[u32]) -> Option<Car> {
         let words: &[u32; 12] = record.try_into().ok()?;
         for (place, &word) in words.iter().enumerate() {
@@ -806,7 +850,10 @@ impl Car {
             range: number(7, 0, 8),
             ahead: number(7, 8, 13),
             ahead_before: number(8, 0, 13),
-            gap: number(9, 0, 5),
+            gap: match number(9, 0, 5) {
+                OLD_GAP => LONGEST_GAP,
+                gap => gap,
+            },
             now: number(10, 0, 17),
             tested: number(11, 0, 17),
         };
@@ -1030,11 +1077,12 @@ impl Reading {
 }
 
 impl Car {
-    /// A sighting for a good car: the next car, which a fault leaves as it is. 22 and 23 come before the event's checks.
-    pub fn see(&self, sighting: Sighting) -> Result<Car, u32> {
+    /// A sighting for a good car: the next car, or none for a fault, which is no event. 22 and 23 come before the event's
+    /// checks.
+    pub fn see(&self, sighting: Sighting) -> Result<Option<Car>, u32> {
         match sighting.reading()? {
-            Some(reading) => self.drive(reading.word()),
-            None => Ok(*self),
+            Some(reading) => self.drive(reading.word()).map(Some),
+            None => Ok(None),
         }
     }
 }

@@ -1,6 +1,8 @@
 //! Chance from a seed: plain numbers, event words, drives that get somewhere, sightings, cars and damaged records.
 
-use crate::paper::{held_desired, Car, ForeBack, Key, Mode, Second, UpDown, CLOCK_END, NOT_READY, TEST_PERIOD};
+use crate::paper::{
+    held_desired, Car, ForeBack, Key, Mode, Second, UpDown, CLOCK_END, LONGEST_GAP, NOT_READY, OLD_GAP, TEST_PERIOD,
+};
 
 /// splitmix64.
 pub struct Random(u64);
@@ -395,7 +397,7 @@ pub fn reached_car(random: &mut Random) -> Car {
 pub fn made_car(random: &mut Random) -> Car {
     let mut car = fresh_car(random);
     car.limit = random.near(&[0, 200, 2000, 5000], 5000);
-    car.gap = random.pick(&[20, 25, 30]);
+    car.gap = random.pick(&[20, 25]);
     car.now = random.near(&[0, 3, 600, 43_200, CLOCK_END - 600, CLOCK_END - 3, CLOCK_END], CLOCK_END);
     match random.below(4) {
         0 => car.up_down = UpDown::new(random.below(5)).expect("a place of L"),
@@ -575,9 +577,19 @@ impl Field {
     }
 }
 
+/// A record that gives this good car: the one it is written as, or where G is 25 now and then the one that holds 30.
+pub fn record(random: &mut Random, car: &Car) -> [u32; 12] {
+    let mut record = car.write();
+    if car.gap == LONGEST_GAP && random.once_in(2) {
+        record[9] = record[9] & !31 | OLD_GAP as u32;
+    }
+    record
+}
+
 /// A record of a good car with damage; some damage leaves it accepted.
 pub fn damaged_record(random: &mut Random) -> Vec<u32> {
-    let mut record = good_car(random).write();
+    let car = good_car(random);
+    let mut record = record(random, &car);
     let place = random.below(12) as usize;
     match random.below(12) {
         0..=2 => random.pick(&FIELDS).change(random, &mut record),

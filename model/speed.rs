@@ -391,7 +391,7 @@ fn model_see(lesson: &Lesson, _: &mut [u32]) -> u32 {
         let car = Car::read(black_box(&record)).ok_or(18u32);
         match car.and_then(|car| car.see(Sighting::Vehicle { metres, kmh })) {
             Ok(next) => {
-                record = next.write();
+                record = next.map_or(record, |next| next.write());
                 sum
             }
             Err(refusal) => sum + refusal,

@@ -60,8 +60,8 @@ const LONGEST: &str = "clock-end.bin";
 /// The one that lists the files of its data/.
 const VECTORS: &str = "crates/vectors";
 /// The files of a folder that the programs' inputs come from beside those.
-const OTHERS: [&str; 8] =
-    ["alike.in", "calls.in", "copy.in", "edges.in", "mark.in", "sighting.in", "records.txt", LONGEST];
+const OTHERS: [&str; 9] =
+    ["alike.in", "calls.in", "copy.in", "edges.in", "mark.in", "sighting.in", "write.in", "records.txt", LONGEST];
 
 /// Holds every `stdout` to the model's answers to its input: true when there is no difference.
 pub fn run() -> bool {

@@ -320,7 +320,10 @@ impl Car {
     }
 
     fn gap_word(&mut self, gap: u32) -> u32 {
-        if gap != 20 && gap != 25 && gap != 30 {
+        if gap == 30 {
+            return 24;
+        }
+        if gap != 20 && gap != 25 {
             return 3;
         }
         if self.key != 2 {

@@ -22,7 +22,7 @@ use Rattle.alike.proofs.Shift.{timed, shift}
 use Rattle.alike.proofs.ShiftLaws.{Refusals, same, first, second, word_refusals, step_shift}
 use Rattle.alike.proofs.AlikeLaws.{Alike, alike, alike_test, back, shift_alike, Shifted, later, earlier, shifted}
 
--- ---- one word, by the checks 1 to 16 and the rules alone
+-- ---- one word, by its checks and the rules alone
 record Steps (a b : Car) (w : ℕ) : Type 0 where
   refusals : Refusals (reads is_tick (read_of w)) (step_of a w).refusal (step_of b w).refusal a.now b.now
   alike : eqb (step_of a w).refusal 0 ≡ eqb (step_of b w).refusal 0 → Alike (step_of a w).car (step_of b w).car

@@ -25,6 +25,7 @@ use Rattle.sighting.specs.declared.Sighting.{Sighting}
 use Rattle.scene.specs.SceneCalls.{heard_sight}
 use Rattle.cruise.specs.Cruise.{fresh_left, drive_left, sighting_of, handed_word, see_left}
 use Rattle.cruise.proofs.CruiseLaws.{see_driven, see_fault, see_refusal}
+use Rattle.callers.proofs.LeftLaws.{drive_own, lesson_own}
 use Rattle.callers.specs.Callers.{LibraryCall, cruise_fresh, cruise_drive, cruise_lesson, cruise_see, cruise_test, plain, left, words_after, Session, begun, going, record_call, heard_fresh, heard, heard_all, first, last, recorded, given_fresh, given_see, given_in, Calling}
 
 -- ---- a record of twelve words and a fresh car
@@ -101,7 +102,7 @@ module _ (ws : List ℕ) (s : Session) (m : Met ws s) where
 
   drive_gave : (w : ℕ) → drive_left ws (read_of ws) w ≡ record { refusal = (drive_of (last s) w).refusal; words = packed (drive_of (last s) w).car }
   unfolding drive_left
-  drive_gave w = rw is_read
+  drive_gave w = rw (is_read, drive_own ws (last s) m.words w) refl
 
   see_gave : (x : Answer Sighting) (a : Answer (Option ℕ)) → handed_word x ≡ a → plain (see_left ws (read_of ws) x) ≡ given_see s a
   unfolding given_see recorded outcome number_of pick
@@ -113,7 +114,7 @@ module _ (ws : List ℕ) (s : Session) (m : Met ws s) where
   unfolding left given_in drive_left lesson_left recorded outcome
   gave (cruise_fresh w) = ap plain (fresh_gave w (start_of w) refl)
   gave (cruise_drive w) = ap plain (drive_gave w)
-  gave (cruise_lesson events answers) = rw is_read
+  gave (cruise_lesson events answers) = rw (is_read, lesson_own ws (last s) m.words events answers) refl
   gave (cruise_see kind metres kmh) = see_gave (sighting_of kind metres kmh) _ refl
   gave cruise_test = test_gave
 

@@ -1,2 +1,4 @@
-pub mod CallersLaws
 pub mod AlikeRecordsLaws
+pub mod CallersLaws
+pub mod LeftLaws
+pub mod StoredRecordLaws

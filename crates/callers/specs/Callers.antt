@@ -29,7 +29,7 @@ plain l = record { refusal = l.refusal; words = l.words; answers = []; accepted 
 unfoldable pub left : List ℕ → LibraryCall → LessonLeft
 left ws (cruise_fresh w) = plain (fresh_left ws (start_of w))
 left ws (cruise_drive w) = plain (drive_left ws (read_of ws) w)
-left ws (cruise_lesson events answers) = lesson_left ws (read_of ws) events answers
+left ws (cruise_lesson events answers) = lesson_left 0 ws (read_of ws) events answers
 left ws (cruise_see kind metres kmh) = plain (see_left ws (read_of ws) (sighting_of kind metres kmh))
 left ws cruise_test = plain (record { refusal = number_of (read_of ws); words = ws })
 

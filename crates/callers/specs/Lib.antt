@@ -1,2 +1,3 @@
 pub mod Callers
 pub mod AlikeRecords
+pub mod StoredRecord

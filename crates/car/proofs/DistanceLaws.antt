@@ -37,7 +37,7 @@ pub products_le : (c : Car) → Ranges c
 products_le c r =
     let v = r.speed in
     let range = r.range in
-    (product_le (gap_le _ r.gap) v, omega arith, omega arith, omega arith, omega arith, omega arith)
+    (product_le (omega (arith, gap_le _ r.gap)) v, omega arith, omega arith, omega arith, omega arith, omega arith)
 
 -- a lesson that reaches it: the key on, a car ahead at 10 km/h, 47 seconds of full gas
 unfoldable pub reaching : List ℕ

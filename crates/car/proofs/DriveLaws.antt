@@ -9,7 +9,7 @@ use Rattle.event.specs.declared.Input.{Input}
 use Rattle.event.specs.declared.Event.{Event}
 use Rattle.event.specs.declared.Event.TheVariants as event
 use Rattle.event.specs.Words.{kind_of, body_of, ready_of, input_of, input_event, tick_word, read_of}
-use Rattle.event.proofs.WordLaws.{refused_number, read_tick, read_input}
+use Rattle.event.proofs.WordLaws.{refused_some, read_tick, read_input}
 use Rattle.car.specs.declared.Car.{Car}
 use Rattle.car.specs.Checks.{input_check, event_check}
 use Rattle.car.specs.Drive.{input_next, event_next, reading_check, check_of, reading_next, next_of, chosen, step_of, accepted, reads, accepted_as}
@@ -23,7 +23,7 @@ read_chosen c w e h = rw h
 
 pub step_unread : (c : Car) (w n : ℕ) → read_of w ≡ refused n → step_of c w ≡ record { car = c; refusal = n }
 unfolding step_of check_of next_of reading_check reading_next chosen
-step_unread c w n h = let r = refused_number w n h in rw h (pick_false _ _ _ (ne_eqb n 0 (omega arith)))
+step_unread c w n h = let r = refused_some w n h in rw h (pick_false _ _ _ (ne_eqb n 0 (omega arith)))
 
 -- an accepted word is of a sort exactly when its event is
 pub accepted_as_lem : (f : Event → Bool) (c : Car) (w : ℕ) (e : Event) → read_of w ≡ gives e → accepted c w ≡ true → accepted_as f c w ≡ f e

@@ -1,7 +1,7 @@
 -- Laws of lessons: the answer word's parts fit, words keep a car good, and the counts.
 -- Assumes nothing.
-use Rattle.std.specs.Prelude.{Bool, true, false, ◌≡◌, refl, List, [], ◌∷◌, ℕ, suc, ◌+◌, ◌≤◌, eqb, length}
-use Rattle.std.proofs.Common.{ap, arith}
+use Rattle.std.specs.Prelude.{Bool, true, false, ◌⊎◌, ◌≡◌, refl, List, [], ◌∷◌, ℕ, suc, ◌+◌, ◌≤◌, eqb, length}
+use Rattle.std.proofs.Common.{inl, inr, ⊎_elim, ap, arith}
 use Rattle.kit.specs.Answer.{Answer, gives, refused}
 use Rattle.kit.specs.Pick.{pick}
 use Rattle.event.specs.declared.Input.{Input}
@@ -40,17 +40,24 @@ unfolding event_check
 event_le c (event.Input i) = input_le c i
 event_le c (event.Tick ready) = tick_le _ _ _ ready
 
-check_le : (c : Car) (w : ℕ) → check_of c w ≤ 16
-unfolding check_of reading_check
-check_le c w = go (read_of w) refl
-  where
-    go : (r : Answer Event) → read_of w ≡ r → reading_check c r ≤ 16
-    go (refused n) h = omega (arith, refused_number w n h)
-    go (gives e) h = event_le c e
+-- the numbers of a word's checks
+abbrev WordNumber : ℕ → Type 0
+WordNumber n = (n ≤ 16) ⊎ (n ≡ 24)
 
--- a word's refusal is at most 16
-pub refusal_le : (c : Car) (w : ℕ) → (step_of c w).refusal ≤ 16
-refusal_le c w = rw (step_refusal c w) (check_le c w)
+check_number : (c : Car) (w : ℕ) → WordNumber (check_of c w)
+unfolding check_of reading_check
+check_number c w = go (read_of w) refl
+  where
+    go : (r : Answer Event) → read_of w ≡ r → WordNumber (reading_check c r)
+    go (refused n) h = ⊎_elim (λ r. inl (omega (arith, r.1))) (λ r. inr r.0) (refused_number w n h)
+    go (gives e) h = inl (event_le c e)
+
+-- a word's refusal is at most 16, or 24; so it is never 18
+pub refusal_number : (c : Car) (w : ℕ) → WordNumber (step_of c w).refusal
+refusal_number c w = rw (step_refusal c w) (check_number c w)
+
+pub refusal_le : (c : Car) (w : ℕ) → (step_of c w).refusal ≤ 24
+refusal_le c w = ⊎_elim (λ h. omega (arith, h)) (λ h. omega (arith, h)) (refusal_number c w)
 
 -- ---- the answer word's fields fit their bits
 pub answering_fits : (d : Driven) → d.refusal ≤ 31 → Ranges d.car → Fits (answering d)

@@ -11,7 +11,7 @@ use Rattle.event.specs.declared.Input.TheVariants.{Key, UpDown, ForeBack, Brake,
 use Rattle.event.specs.declared.Event.{Event}
 use Rattle.event.specs.declared.Event.TheVariants as event
 use Rattle.event.specs.Words.{input_kind, input_range, in_range, read_of}
-use Rattle.event.proofs.WordLaws.{read_in_range, refused_number}
+use Rattle.event.proofs.WordLaws.{read_in_range, refused_some}
 use Rattle.car.specs.declared.Car.{Car}
 use Rattle.car.specs.Drive.{Driven, input_next, event_next, reading_check, check_of, reading_next, next_of, chosen, step_of, drive_of}
 use Rattle.car.specs.Car.{with_levers, with_limiter, with_cruise}
@@ -106,7 +106,7 @@ stepping c w = go (read_of w) refl
     go : (r : Answer Event) → read_of w ≡ r → Stepping c w
     go (refused n) h =
         let k = unread_check c w n h in
-        let b = refused_number w n h in
+        let b = refused_some w n h in
         let z : (check_of c w ≡ 0 → ⊥) = λ q. omega (arith, sym k ∙ q) in
         stayed z (chosen_kept c _ _ z)
     go (gives e) h = accepted e h (eqb (event_check c e) 0) refl
@@ -127,7 +127,7 @@ step_good c w g = by (stepping c w)
     by (went e r i h z q) = rw q (good_test _ (next_good c e (good c g) i h))
     by (stayed n q) = rw q g
 
--- a good car is driven by the checks 1 to 16 and the rules
+-- a good car is driven by the checks and the rules
 pub drive_step : (c : Car) (w : ℕ) → good_of c ≡ true → drive_of c w ≡ step_of c w
 unfolding drive_of
 drive_step c w g = pick_true _ _ _ g

@@ -23,7 +23,7 @@ following c =
 
 pub following_le : (c : Car) → Ranges c → following c ≤ 30
 unfolding following
-following_le c r = pick_le _ _ _ _ (gap_le _ r.gap) (pick_le _ _ _ _ (omega arith) (omega arith))
+following_le c r = pick_le _ _ _ _ (omega (arith, gap_le _ r.gap)) (pick_le _ _ _ _ (omega arith) (omega arith))
 
 pub secure_standing : (c : Car) → (eqb c.radar.lead 0 && eqb c.speed 0) ≡ true → 2 ≡ secure_distance c
 unfolding secure_distance

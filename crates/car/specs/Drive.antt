@@ -41,7 +41,8 @@ unfoldable pub event_next : Car → Event → Car
 event_next c (event.Input i) = input_next c i
 event_next c (event.Tick ready) = ticked c ready
 
--- "Checks run in rising number; the first that holds is the refusal, and with none the event is accepted": 1 to 16 of a word, 0 for none
+-- "Checks run in rising number; the first that holds is the refusal, and with none the event is accepted": a word's checks are 1 to 16, with 24
+-- "looked at where a value's range was, after 3"; 0 for none
 unfoldable pub reading_check : Car → Answer Event → ℕ
 reading_check c (refused n) = n
 reading_check c (gives e) = event_check c e
@@ -61,7 +62,7 @@ next_of c w = reading_next c (read_of w)
 unfoldable pub chosen : Car → ℕ → Car → Driven
 chosen c refusal next = pick (eqb refusal 0) (record { car = next; refusal = 0 }) (record { car = c; refusal = refusal })
 
--- a word driven by the checks 1 to 16 and the rules alone
+-- a word driven by its checks and the rules alone
 unfoldable pub step_of : Car → ℕ → Driven
 step_of c w = chosen c (check_of c w) (next_of c w)
 

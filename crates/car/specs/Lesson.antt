@@ -29,7 +29,7 @@ answering d =
 unfoldable pub answer_of : Driven → ℕ
 answer_of d = word_of (answering d)
 
--- ---- words driven one after the other, by the checks 1 to 16 and the rules alone: the last car, the answers, the counts
+-- ---- words driven one after the other, by their checks and the rules alone: the last car, the answers, the counts
 unfoldable pub driven : Car → List ℕ → Car
 driven c [] = c
 driven c (w ∷ ws) = driven (step_of c w).car ws

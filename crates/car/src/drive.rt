@@ -29,7 +29,7 @@ impl Car {
         }
     }
 
-    // 18 for a car that is not good, then 1 to 16, then the rule. A tick is told by its word, as in a lesson.
+    // 18 for a car that is not good, then the word's checks, then the rule. A tick is told by its word, as in a lesson.
     pub fn drive(self, word: u32) -> Result<Car, Refusal>
         ensures { drive_answer self result ≡ drive_of self word }
     {
@@ -45,7 +45,7 @@ impl Car {
 }
 
 impl GoodCar {
-    // An input's word: 1 to 14, then its rule. A refused word leaves the car as it was.
+    // An input's word: 1 to 14 and 24, then its rule. A refused word leaves the car as it was.
     pub(crate) fn drive_input(&mut self, word: u32) -> Result<(), Refusal>
         requires { eqb (kind_of word) 10 ≡ false }
         ensures refusal { number result ≡ (step_of self.old.car word).refusal }

@@ -6,8 +6,8 @@
 #include <stdio.h>
 #include <string.h>
 
-#if CRUISE_VERSION < 0x000900 || CRUISE_VERSION >= 0x010000
-#error "calls.c is for version 0.9 and those that keep to it"
+#if CRUISE_VERSION < 0x000A00 || CRUISE_VERSION >= 0x010000
+#error "calls.c is for version 0.10 and those that keep to it"
 #endif
 
 /* What a buffer holds before a call, and the words round it always. */
@@ -215,8 +215,8 @@ static void outside(uint32_t value)
     if (value > 4) {
         refuses(2, cruise_word_up_down(value), CRUISE_OUT_OF_RANGE);
     }
-    if (value != 20 && value != 25 && value != 30) {
-        refuses(7, cruise_word_gap(value), CRUISE_OUT_OF_RANGE);
+    if (value != 20 && value != 25) {
+        refuses(7, cruise_word_gap(value), value == 30 ? CRUISE_GAP_WITHDRAWN : CRUISE_OUT_OF_RANGE);
     }
     if (value > 225) {
         refuses(4, cruise_word_brake(value), CRUISE_OUT_OF_RANGE);
@@ -238,7 +238,7 @@ static void outside(uint32_t value)
 
 static void ranges(void)
 {
-    static const uint32_t firsts[] = {0, 3, 5, 7, 19, 21, 24, 26, 29, 31, 226, 255, 256, 2001, 5001};
+    static const uint32_t firsts[] = {0, 3, 5, 7, 19, 21, 24, 26, 29, 30, 31, 226, 255, 256, 2001, 5001};
     for (size_t i = 0; i < sizeof firsts / sizeof firsts[0]; i++) {
         outside(firsts[i]);
     }
@@ -254,7 +254,6 @@ static void ranges(void)
     refuses(6, cruise_word_button(5000), CRUISE_KEY_NOT_ON);
     refuses(7, cruise_word_gap(20), CRUISE_KEY_NOT_ON);
     refuses(7, cruise_word_gap(25), CRUISE_KEY_NOT_ON);
-    refuses(7, cruise_word_gap(30), CRUISE_KEY_NOT_ON);
     refuses(8, cruise_word_sign(2000), CRUISE_KEY_NOT_ON);
     refuses(9, cruise_word_radar(254, 5000), CRUISE_KEY_NOT_ON);
 }
@@ -1362,6 +1361,112 @@ static void records(void)
     changed(behind, 11, 0xBB000001); /* Q past now */
 }
 
+/* One word driven on a record: its refusal, and the record afterwards. */
+static void drive_is(int line, const uint32_t *car, uint32_t word, uint32_t refusal, const uint32_t *after)
+{
+    struct area record;
+    equal(line, "cruise_drive", cruise_drive(lay(&record, car, WORDS), WORDS, word), refusal);
+    left(line, "the record", &record, after, WORDS);
+}
+
+/* Document 02, 12: a record that holds the gap 30 gives a car with 25. The car: `behind` with R 38 and W 300, so that N goes by the gap: 34 by 25, not too
+   close; by 30 it would be 41, and too close. */
+static void old_gap(void)
+{
+    static const uint32_t held[WORDS] = {0xB0003012, 0xB1000000, 0xB20001F4, 0xB3000000, 0xB4000384, 0xB5000000,
+                                         0xB6000000, 0xB7012C26, 0xB8000000, 0xB900001E, 0xBA000000, 0xBB000000};
+    /* Key on, radar not ready; key out. */
+    static const uint32_t not_ready[WORDS] = {0xB0000011, 0xB1000000, 0xB2000000, 0xB3000000, 0xB4000000, 0xB5000000,
+                                              0xB6000000, 0xB70000FF, 0xB8000000, 0xB900001E, 0xBA000000, 0xBB000000};
+    static const uint32_t key_out[WORDS] = {0xB0000001, 0xB1000000, 0xB2000000, 0xB3000000, 0xB4000000, 0xB5000000,
+                                            0xB6000000, 0xB70000FF, 0xB8000000, 0xB900001E, 0xBA000000, 0xBB000000};
+    static const struct {
+        uint32_t word, refusal;
+    } turned_away[] = {
+        {0x7000001E, CRUISE_GAP_WITHDRAWN}, {0x7000003E, CRUISE_UNNAMED_BIT}, {0x7000001D, CRUISE_OUT_OF_RANGE},
+        {0x7000001F, CRUISE_OUT_OF_RANGE},  {0x00000000, CRUISE_NO_SUCH_KIND}, {0x10000006, CRUISE_ALREADY_HELD},
+        {0xA0000000, CRUISE_READY_BIT},     {0xB900001E, CRUISE_NO_SUCH_KIND},
+    };
+    static const uint32_t stored[3] = {0xA0000001, 0x7000001E, 0xA0000001};
+    static const uint32_t stored_answers[3] = {0xC0E12300, 0xC0E12318, 0xC0E10F00}; /* N 37, and 39 at v 572: then too close */
+    static const uint32_t none_taken[2] = {0x7000001E, 0xA0000000};
+    static const uint32_t none_answers[2] = {0xC0E12318, 0xC0E1230F};
+    static const uint32_t choices[4] = {0x7000001E, 0x10000001, 0x7000001E, 0x10000000};
+    static const uint32_t chosen[2] = {0x10000001, 0x10000000};
+    struct area record, answers;
+    uint32_t now[WORDS], after[WORDS];
+    size_t accepted = 77, refused = 77;
+    copy(now, held);
+    now[9] = 0xB9000019;
+
+    /* Read, it is the car with 25. */
+    EQUAL(cruise_test(lay(&record, held, WORDS), WORDS), CRUISE_ACCEPTED);
+    LEFT(record, held, WORDS);
+    dials(__LINE__, held, WORDS, 0, 500, 900, 10, 0, 0, 34);
+    dials(__LINE__, now, WORDS, 0, 500, 900, 10, 0, 0, 34);
+    two(__LINE__, held, now, 1);
+    two(__LINE__, held, held, 1);
+    copy(after, now);
+    after[9] = 0xB9000014;
+    two(__LINE__, held, after, 0);
+    mark_is(__LINE__, held, WORDS, stored, 3, 530, 0, 1, 2);
+    mark_is(__LINE__, held, WORDS, stored, 3, 570, 0, 3, 1);
+
+    /* Refused words leave it as it is, with the key out and on: 24 comes before 4. */
+    for (size_t i = 0; i < sizeof turned_away / sizeof turned_away[0]; i++) {
+        drive_is(__LINE__, held, turned_away[i].word, turned_away[i].refusal, held);
+    }
+    drive_is(__LINE__, key_out, 0x7000001E, CRUISE_GAP_WITHDRAWN, key_out);
+    drive_is(__LINE__, key_out, 0x7000001F, CRUISE_OUT_OF_RANGE, key_out);
+    drive_is(__LINE__, key_out, 0x70000019, CRUISE_KEY_NOT_ON, key_out);
+
+    /* Accepted ones write 25, also where they change nothing, or the gap that they choose. */
+    drive_is(__LINE__, held, 0x800001F4, CRUISE_ACCEPTED, now);
+    drive_is(__LINE__, held, 0x70000019, CRUISE_ACCEPTED, now);
+    drive_is(__LINE__, held, 0x70000014, CRUISE_ACCEPTED, after);
+    copy(after, now);
+    after[2] = 0xB2000218;
+    after[10] = 0xBA000001;
+    drive_is(__LINE__, held, 0xA0000001, CRUISE_ACCEPTED, after);
+
+    /* So does a lesson that ran, whatever its words did. */
+    taught_is(__LINE__, held, NULL, NULL, 0, 0, now);
+    taught_is(__LINE__, held, none_taken, none_answers, 2, 0, now);
+    after[2] = 0xB200023C;
+    after[10] = 0xBA000002;
+    taught_is(__LINE__, held, stored, stored_answers, 3, 2, after);
+    EQUAL(cruise_lesson(lay(&record, held, WORDS), WORDS, stored, 3, lay(&answers, NULL, 0), 2, &accepted, &refused), CRUISE_SHORT_ANSWERS);
+    EQUAL(accepted, 0);
+    EQUAL(refused, 0);
+    LEFT(record, held, WORDS);
+    LEFT(answers, NULL, 0);
+
+    /* A sighting of 38 metres and 30 km/h; what is refused, and a fault, leave the record. */
+    copy(after, now);
+    after[8] = 0xB800012C;
+    see_is(__LINE__, held, CRUISE_SIGHTING_VEHICLE, 0x42180000, 0x41F00000, CRUISE_ACCEPTED, after);
+    see_is(__LINE__, held, CRUISE_SIGHTING_FAULT, 0x42180000, 0x41F00000, CRUISE_ACCEPTED, held);
+    see_is(__LINE__, held, 3, 0x42180000, 0x41F00000, CRUISE_NO_SUCH_KIND, held);
+    see_is(__LINE__, held, CRUISE_SIGHTING_VEHICLE, 0xBF800000, 0x41F00000, CRUISE_BAD_FLOAT, held);
+    see_is(__LINE__, held, CRUISE_SIGHTING_VEHICLE, 0x42180000, 0x43FA8000, CRUISE_TOO_FAST, held);
+    see_is(__LINE__, not_ready, CRUISE_SIGHTING_FREE, 0, 0, CRUISE_RADAR_NOT_READY, not_ready);
+    see_is(__LINE__, key_out, CRUISE_SIGHTING_FREE, 0, 0, CRUISE_KEY_NOT_ON, key_out);
+
+    /* A clean copy leaves the choice 30 out. */
+    copy_is(__LINE__, 0xD0000001, choices, 4, 4, CRUISE_ACCEPTED, chosen, 2);
+    copy_is(__LINE__, 0xD0000001, choices, 4, 2, CRUISE_ACCEPTED, chosen, 2);
+
+    /* 30 beside what no record has, and gaps that never were. */
+    changed(held, 9, 0xB900001D);
+    changed(held, 9, 0xB900001F);
+    changed(held, 9, 0xB900003E);
+    changed(held, 9, 0xB980001E);
+    changed(held, 9, 0xB800001E);
+    changed(held, 9, 0xA900001E);
+    changed(held, 10, 0xBA000258); /* now = Q + 600 */
+    changed(held, 4, 0xB4000000);  /* C with D = 0 */
+}
+
 int main(void)
 {
     words();
@@ -1386,6 +1491,7 @@ int main(void)
     alikes();
     pupils();
     records();
+    old_gap();
     if (failures != 0) {
         printf("calls.c: %lu of %lu checks fail\n", failures, checks);
         return 1;

@@ -2,12 +2,17 @@
 
    A car is its record, an array of CRUISE_RECORD_WORDS words. Keep it, copy it and hand it back whole: only the functions write in it.
    Every function gives the refusal's number, or 0 for none; where two would hold, the lower one, but 18 comes before all others, and 22
-   and 23, of a sighting's floats, before 4 and 14, of its event. A refused call leaves record, answer and copy buffers as they were. A buffer
-   crosses as a pointer and its length in words; a missing one is any pointer, also NULL, with length 0. Nothing checks these three:
+   and 23, of a sighting's floats, before 4 and 14, of its event, and 24, of the gap choice 30, before 4. A refused call leaves record, answer and
+   copy buffers as they were. A buffer crosses as a pointer and its length in words; a missing one is any pointer, also NULL, with length 0. Nothing
+   checks these three:
    - Alignment: any pointer to a number, or to a buffer of one word or more, must be aligned as its type asks.
    - Overlap: what a function writes must not overlap with anything else that it is handed; what is only read may overlap.
    - The pointers to single numbers must not be NULL, and a buffer must have the length given.
    Threads: no state is kept between calls, so they may run in different threads at once where none writes what another is handed.
+
+   A stored record may hold the gap 30, which a car had before version 0.10. It is accepted, and its car has 25: whatever a function tells of that
+   car, it tells of 25. The record itself holds 30 until it is written: an accepted word, and a lesson that ran, whatever its words did, leave the next
+   car's record, which holds 20 or 25; a refused word, a fault of the scene engine and whatever only reads leave it bit for bit.
 
    Speeds are in tenths of km/h, accelerations in tenths of m/s2, distances in metres, times in seconds save the gap; a tick is one second.
    A sighting's two numbers are 32-bit floats, its speed in km/h.
@@ -25,7 +30,7 @@ extern "C" {
 
 /* The version of this header and of the archive beside it: it rises with each change of what a function gives. */
 #define CRUISE_VERSION_MAJOR 0
-#define CRUISE_VERSION_MINOR 9
+#define CRUISE_VERSION_MINOR 10
 #define CRUISE_VERSION (CRUISE_VERSION_MAJOR << 16 | CRUISE_VERSION_MINOR << 8)
 
 /* How many words a record has. */
@@ -63,7 +68,9 @@ enum {
     CRUISE_CUT_WORD = 21,      /* file ends inside a word: no function gives it */
     /* The scene engine. */
     CRUISE_BAD_FLOAT = 22, /* a float that is no number, infinite or below zero */
-    CRUISE_TOO_FAST = 23   /* a speed above 500 km/h */
+    CRUISE_TOO_FAST = 23,  /* a speed above 500 km/h */
+    /* Whoever wrote the file while 3.0 seconds could be chosen. */
+    CRUISE_GAP_WITHDRAWN = 24 /* the gap choice 30; in place of 3, so before 4 */
 };
 
 /* The kind of a word: its top four bits. */
@@ -100,7 +107,7 @@ enum { CRUISE_SIGHTING_VEHICLE = 0, CRUISE_SIGHTING_FREE = 1, CRUISE_SIGHTING_FA
 static inline uint32_t cruise_at_most(uint32_t value, uint32_t bound) { return value < bound ? value : bound; }
 
 /* The words, one function for each kind. They refuse nothing and no value spills into another field: one that is outside its range gives
-   a word of the same kind that is refused, an event word with 3 (ready above 1: with 2) and the settings word with 17. */
+   a word of the same kind that is refused, an event word with 3 (ready above 1: with 2; the gap 30: with 24) and the settings word with 17. */
 
 /* A flag, 0 or 1, at its bit of a settings word; any other value gives bit 4, which is unnamed. */
 static inline uint32_t cruise_flag(uint32_t flag, uint32_t bit) { return flag < 2 ? flag << bit : 1u << 4; }
@@ -140,7 +147,7 @@ static inline uint32_t cruise_word_gas(uint32_t pressed) { return 0x50000000u | 
 /* The limiter's button, with the limit, a speed 0..5000 (bits 0-12). */
 static inline uint32_t cruise_word_button(uint32_t limit) { return 0x60000000u | cruise_at_most(limit, 0x1FFF); }
 
-/* The chosen gap in tenths of a second: 20, 25 or 30 (bits 0-4). */
+/* The chosen gap in tenths of a second: 20 or 25 (bits 0-4). From version 0.10 on 30 is refused. */
 static inline uint32_t cruise_word_gap(uint32_t gap) { return 0x70000000u | cruise_at_most(gap, 0x1F); }
 
 /* A traffic sign with a speed 0..2000 (bits 0-10). */
@@ -173,8 +180,8 @@ static inline uint32_t cruise_answer_desired(uint32_t answer) { return answer >>
    17 a word that is no settings word, or with settings outside their values. 20 record buffer under 12 words, kept. */
 uint32_t cruise_fresh(uint32_t settings, uint32_t *record, size_t length);
 
-/* One event word: the record becomes that of the next car. A refused event changes no field.
-   18 a record not of 12 words or not accepted, kept. 1 to 16 the event is refused. */
+/* One event word: the record becomes that of the next car. A refused event leaves the record as it is.
+   18 a record not of 12 words or not accepted, kept. 1 to 16 and 24 the event is refused. */
 uint32_t cruise_drive(uint32_t *record, size_t length, uint32_t word);
 
 /* A lesson: a run of event words, with one answer word for each (cruise_answer_refusal and so on). The record becomes that of the car
@@ -211,7 +218,7 @@ uint32_t cruise_sighting(uint32_t kind, float metres, float kmh, uint32_t *word)
 /* A sighting driven: the record becomes that of the car after its radar event. A fault gives 0 and leaves the record as it is. The floats of a
    free road and of a fault are not looked at. From version 0.6 on.
    18 a record not of 12 words or not accepted, kept. 1 no such kind of sighting. 22 a float that is no number, infinite or below zero. 23 a speed
-   above 500 km/h. 4 key not on. 14 the radar is not ready. In this order; a refused sighting changes no field. */
+   above 500 km/h. 4 key not on. 14 the radar is not ready. In this order; a refused sighting leaves the record as it is. */
 uint32_t cruise_see(uint32_t *record, size_t length, uint32_t kind, float metres, float kmh);
 
 /* Whether a record is accepted.

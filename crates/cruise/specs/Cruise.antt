@@ -1,5 +1,6 @@
 -- What each function of the library gives and leaves. A car crosses as the twelve words of its record: `gives c` where the words handed
--- over are an accepted record, of the car c, and `refused n` where they are not (18).
+-- over are an accepted record, of the car c, and `refused n` where they are not (18). A record that holds the gap 30 gives a car with 25 (document 02,
+-- §12): its words differ from those of its car, so that it matters whether they are kept or written.
 -- Assumes nothing.
 use Rattle.std.specs.Prelude.{false, Result, Ok, Err, List, ℕ, eqb, Float, ℤ, Option, Some, None}
 use Rattle.kit.specs.Answer.{Answer, gives, refused, number_of}
@@ -19,7 +20,7 @@ use Rattle.passing.specs.Passing.{event_number, mark_of}
 use Rattle.sighting.specs.declared.Sighting.{Sighting}
 use Rattle.sighting.specs.declared.Sighting.TheVariants.{Vehicle, Free, Fault}
 use Rattle.sighting.specs.Sighting.{seen_word}
-use Rattle.scene.specs.See.{see_of}
+use Rattle.scene.specs.See.{Saw, see_of}
 
 -- the refusal, and the words of the record's buffer afterwards
 pub record Left : Type 0 where
@@ -31,9 +32,13 @@ unfoldable pub fresh_left : List ℕ → Answer Car → Left
 fresh_left words (gives c) = record { refusal = saved_refusal c words; words = saved_buffer c words }
 fresh_left words (refused n) = record { refusal = n; words = words }
 
--- cruise_drive: 18, then 1 to 16
+-- the record's words after one event: those of the car that it gave, or kept where it was refused
+unfoldable pub event_left : List ℕ → ℕ → Car → List ℕ
+event_left words refusal c = pick (eqb refusal 0) (packed c) words
+
+-- cruise_drive: 18, then the word's checks
 unfoldable pub drive_left : List ℕ → Answer Car → ℕ → Left
-drive_left words (gives c) word = record { refusal = (drive_of c word).refusal; words = packed (drive_of c word).car }
+drive_left words (gives c) word = record { refusal = (drive_of c word).refusal; words = event_left words (drive_of c word).refusal (drive_of c word).car }
 drive_left words (refused n) word = record { refusal = n; words = words }
 
 -- the figures of a record's car: zeros where no car was read
@@ -125,8 +130,12 @@ sighting_left (gives (Some w)) = record { refusal = 0; word = w }
 sighting_left (gives None) = record { refusal = 0; word = 0 }
 sighting_left (refused n) = record { refusal = n; word = 0 }
 
+-- with no event, at a fault, they are kept too
+unfoldable pub saw_left : List ℕ → Saw → Left
+saw_left words s = record { refusal = s.refusal; words = pick s.fault words (event_left words s.refusal s.car) }
+
 -- cruise_see: 18, then 1, then 22 and 23, then 4 and 14
 unfoldable pub see_left : List ℕ → Answer Car → Answer Sighting → Left
-see_left words (gives c) (gives s) = record { refusal = (see_of c s).refusal; words = packed (see_of c s).car }
+see_left words (gives c) (gives s) = saw_left words (see_of c s)
 see_left words (gives c) (refused n) = record { refusal = n; words = words }
 see_left words (refused n) a = record { refusal = n; words = words }

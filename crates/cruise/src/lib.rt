@@ -40,22 +40,22 @@ pub fn cruise_lesson(
     accepted: &mut usize,
     refused: &mut usize,
 ) -> u32
-    ensures { ◌≡◌ {A = LessonLeft} (record { refusal = result; words = «record».new; answers = answers.new; accepted = accepted.new; refused = refused.new }) (lesson_left «record».old (read_of «record».old) words.now answers.old) }
+    ensures { ◌≡◌ {A = LessonLeft} (record { refusal = result; words = «record».new; answers = answers.new; accepted = accepted.new; refused = refused.new }) (lesson_left 0 «record».old (read_of «record».old) words.now answers.old) }
 {
-    let lesson = record::lesson(record, words, answers);
+    let lesson = record::lesson(record, words, answers, 0);
     let counts = lesson.unwrap_or_default();
     *accepted = counts.accepted;
     *refused = counts.refused;
     refusal::number(&lesson)
 }
 
-// A lesson of one word. Its answer word holds the word's refusal.
+// A lesson of one word, which is written where the word was accepted. Its answer word holds the word's refusal.
 #[tactic(auto, using(kit::specs::Pick::picks, crate::proofs::CruiseLaws::drive_refused, crate::proofs::CruiseLaws::drive_answered))]
 pub fn cruise_drive(record: &mut [u32], word: u32) -> u32
     ensures { ◌≡◌ {A = Left} (record { refusal = result; words = «record».new }) (drive_left «record».old (read_of «record».old) word) }
 {
     let mut answers = [0; 1];
-    match record::lesson(record, &[word], &mut answers) {
+    match record::lesson(record, &[word], &mut answers, 1) {
         Ok(_) => Answer::from(answers[0]).refusal,
         Err(refusal) => u32::from(refusal),
     }

@@ -32,7 +32,7 @@ pub extern "C" fn cruise_lesson(
     accepted: &mut usize,
     refused: &mut usize,
 ) -> u32
-    ensures { ◌≡◌ {A = LessonLeft} (record { refusal = result; words = «record».new; answers = answers.new; accepted = accepted.new; refused = refused.new }) (lesson_left «record».old (read_of «record».old) words.now answers.old) }
+    ensures { ◌≡◌ {A = LessonLeft} (record { refusal = result; words = «record».new; answers = answers.new; accepted = accepted.new; refused = refused.new }) (lesson_left 0 «record».old (read_of «record».old) words.now answers.old) }
 {
     cruise::cruise_lesson(record, words, answers, accepted, refused)
 }

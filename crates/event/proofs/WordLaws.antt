@@ -1,29 +1,28 @@
 -- What holds of every event and every word, of the definitions of Words.
 -- Assumes nothing.
-use Rattle.std.specs.Prelude.{Bool, true, false, ◌&&◌, ◌||◌, not, ◌≡◌, ℕ, ◌+◌, ◌*◌, ◌/◌, ◌%◌, ◌≤◌, ◌<◌, eqb, leb}
+use Rattle.std.specs.Prelude.{Bool, true, false, ◌&&◌, ◌||◌, not, ◌⊎◌, ◌↔◌, ◌≡◌, ℕ, ◌+◌, ◌*◌, ◌/◌, ◌%◌, ◌≤◌, ◌<◌, eqb, leb}
 use Rattle.std.proofs.Math.Path.{refl}
-use Rattle.std.proofs.Common.{sym, ap, subst, ◌∙◌, arith, leb-true, leb-false, ltb-true, eqb-true}
+use Rattle.std.proofs.Common.{true≢false, inl, inr, ⊎_elim, sym, ap, subst, ◌∙◌, arith, leb-true, leb-false, ltb-true, eqb-true}
 use Rattle.std.proofs.Math.Dec.{ltb}
 use Rattle.std.proofs.lemmas.Bool.{eqb-false, lt-leb, not-true, not-false}
 use Rattle.kit.specs.Answer.{Answer, gives, refused}
 use Rattle.kit.specs.Bounds.{pedal_ceiling, speed_ceiling}
-use Rattle.kit.specs.Pick.{pick, pick_true, pick_false, not_of_true, not_of_false, pick_case, and_l, and_r}
+use Rattle.kit.specs.Pick.{pick, pick_true, pick_false, not_of_true, pick_case, and_l, and_r}
 use Rattle.event.specs.declared.Input.{Input}
 use Rattle.event.specs.declared.Input.TheVariants.{Key, UpDown, ForeBack, Brake, Gas, Button, Gap, Sign, Radar}
 use Rattle.event.specs.declared.Event.{Event}
 use Rattle.event.specs.declared.Event.TheVariants as event
-use Rattle.event.specs.Words.{kind_of, body_of, permitted_gap, input_range, in_range, unnamed_of, judged, key_word, radar_word, key_on_of, inputs_of, input_of, tick_word, input_event, read_of, bit_of, input_word, word_of, write_of}
+use Rattle.event.specs.Words.{kind_of, body_of, permitted_gap, input_range, range_refusal, in_range, unnamed_of, judged, key_word, radar_word, key_on_of, inputs_of, input_of, tick_word, input_event, read_of, bit_of, input_word, word_of, write_of}
 
 -- ---- values and flags
--- a permitted gap is at most three seconds
-pub gap_le : (n : ℕ) → permitted_gap n ≡ true → n ≤ 30
+-- a permitted gap is at most two and a half seconds
+pub gap_le : (n : ℕ) → permitted_gap n ≡ true → n ≤ 25
 unfolding permitted_gap
-gap_le n h = go (eqb n 20) (eqb n 25) refl refl h
+gap_le n h = go (eqb n 20) refl h
   where
-    go : (p q : Bool) → eqb n 20 ≡ p → eqb n 25 ≡ q → (p || q || eqb n 30) ≡ true → n ≤ 30
-    go true q e f h = omega (arith, eqb-true n 20 e)
-    go false true e f h = omega (arith, eqb-true n 25 f)
-    go false false e f h = omega (arith, eqb-true n 30 h)
+    go : (p : Bool) → eqb n 20 ≡ p → (p || eqb n 25) ≡ true → n ≤ 25
+    go true e h = omega (arith, eqb-true n 20 e)
+    go false e h = omega (arith, eqb-true n 25 h)
 
 radar_le : (range speed : ℕ) → (leb range 254 && leb speed speed_ceiling) ≡ true → (range ≤ 254) × (speed ≤ speed_ceiling)
 radar_le range speed h =
@@ -62,14 +61,47 @@ unfolding in_range word_of
 word_fits (event.Input i) h = input_fits i h
 word_fits (event.Tick ready) h = omega (arith, bit_le ready)
 
--- what the writing of an event says: its word and that it is in range, or refusal 3 and that it is not
+-- "the gap choice 30" (document 02, §12), as an event
+abbrev pub gap_30 : Event
+gap_30 = event.Input (Gap 30)
+
+-- "24, and not 3, the gap choice 30": which of the two numbers an event out of range gets
+abbrev pub OutOfRange : Event → ℕ → Type 0
+OutOfRange e n = ((n ≡ 3) × (e ≡ gap_30 → ⊥)) ⊎ ((n ≡ 24) × (e ≡ gap_30))
+
+-- the gap of an event, 0 of one that has none
+unfoldable gap_of : Event → ℕ
+gap_of (event.Input (Gap tenths)) = tenths
+gap_of (event.Input i) = 0
+gap_of (event.Tick ready) = 0
+
+other_input : (i : Input) → gap_of (event.Input i) ≡ 0 → event.Input i ≡ gap_30 → ⊥
+unfolding gap_of
+other_input i z e = omega (arith, z, ap gap_of e)
+
+range_number : (i : Input) → OutOfRange (event.Input i) (range_refusal i)
+unfolding range_refusal gap_of
+range_number (Key position ready) = inl (refl, other_input _ refl)
+range_number (UpDown x) = inl (refl, other_input _ refl)
+range_number (ForeBack x) = inl (refl, other_input _ refl)
+range_number (Brake x) = inl (refl, other_input _ refl)
+range_number (Gas x) = inl (refl, other_input _ refl)
+range_number (Button limit) = inl (refl, other_input _ refl)
+range_number (Gap tenths) = pick_case (OutOfRange (event.Input (Gap tenths))) (eqb tenths 30) 24 3
+    (λ t. let e = eqb-true tenths 30 t in inr (refl, ap (λ (n : ℕ). event.Input (Gap n)) e))
+    (λ t. inl (refl, λ e. eqb-false tenths 30 t (ap gap_of e)))
+range_number (Sign s) = inl (refl, other_input _ refl)
+range_number (Radar range speed) = inl (refl, other_input _ refl)
+
+-- what the writing of an event says: its word and that it is in range, or refusal 3 or 24 and that it is not
 unfoldable Writes : Event → Answer ℕ → Type 0
 Writes e (gives w) = (in_range e ≡ true) × (word_of e ≡ w)
-Writes e (refused n) = (in_range e ≡ false) × (n ≡ 3)
+Writes e (refused n) = (in_range e ≡ false) × OutOfRange e n
 
 writes : (e : Event) → Writes e (write_of e)
-unfolding Writes write_of
-writes e = pick_case (Writes e) (not (in_range e)) _ _ (λ t. (not-true _ t, refl)) (λ t. (not-false _ t, refl))
+unfolding Writes write_of in_range word_of
+writes (event.Input i) = pick_case (Writes (event.Input i)) (not (input_range i)) _ _ (λ t. (not-true _ t, range_number i)) (λ t. (not-false _ t, refl))
+writes (event.Tick ready) = (refl, refl)
 
 -- an event that is written is in range, and the word is its own
 pub written_in_range : (e : Event) (w : ℕ) → write_of e ≡ gives w → (in_range e ≡ true) × (word_of e ≡ w)
@@ -77,29 +109,53 @@ unfolding Writes
 written_in_range e w h = subst (Writes e) h (writes e)
 
 pub in_range_written : (e : Event) → in_range e ≡ true → write_of e ≡ gives (word_of e)
-unfolding write_of
-in_range_written e h = pick_false _ _ _ (not_of_true _ h)
+unfolding write_of in_range word_of
+in_range_written (event.Input i) h = pick_false _ _ _ (not_of_true _ h)
+in_range_written (event.Tick ready) h = refl
 
--- an event is refused exactly when it is out of range, and the refusal is 3
-pub unwritten_out_of_range : (e : Event) (n : ℕ) → write_of e ≡ refused n → (in_range e ≡ false) × (n ≡ 3)
+-- an event is refused exactly when it is out of range, and the refusal is 3, or 24 of the gap choice 30
+pub unwritten_out_of_range : (e : Event) (n : ℕ) → write_of e ≡ refused n → (in_range e ≡ false) × OutOfRange e n
 unfolding Writes
 unwritten_out_of_range e n h = subst (Writes e) h (writes e)
 
-pub out_of_range_unwritten : (e : Event) → in_range e ≡ false → write_of e ≡ refused 3
-unfolding write_of
-out_of_range_unwritten e h = pick_true _ _ _ (not_of_false _ h)
+pub out_of_range_unwritten : (e : Event) → in_range e ≡ false → (e ≡ gap_30 → ⊥) → write_of e ≡ refused 3
+out_of_range_unwritten e h other = go (write_of e) refl
+  where
+    go : (a : Answer ℕ) → write_of e ≡ a → a ≡ refused 3
+    go (gives w) q = absurd (true≢false (sym (written_in_range e w q).0 ∙ h))
+    go (refused n) q = ⊎_elim (λ r. ap refused r.0) (λ r. absurd (other r.1)) (unwritten_out_of_range e n q).1
+
+pub gap_30_unwritten : write_of gap_30 ≡ refused 24
+unfolding write_of input_range permitted_gap range_refusal pick
+gap_30_unwritten = refl
+
+-- 24 exactly for the gap choice 30
+pub unwritten_24 : (e : Event) → write_of e ≡ refused 24 ↔ e ≡ gap_30
+unwritten_24 e = (
+  λ h. ⊎_elim (λ r. absurd (omega (arith, r.0))) (λ r. r.1) (unwritten_out_of_range e 24 h).1,
+  λ h. ap write_of h ∙ gap_30_unwritten,
+)
 
 -- ---- reading
--- what the reading of a word that is no tick says: an input in range that has this word, or a refusal from 1 to 3
+-- a word's refusal by what it reads: 1, 2 or 3, or 24 and the word is that of the gap choice 30
+abbrev pub Unread : ℕ → ℕ → Type 0
+Unread w n = ((1 ≤ n) × (n ≤ 3)) ⊎ ((n ≡ 24) × (word_of gap_30 ≡ w))
+
+-- what the reading of a word that is no tick says: an input in range that has this word, or its refusal
 unfoldable InputReads : ℕ → Answer Input → Type 0
 InputReads w (gives i) = (input_range i ≡ true) × (input_word i ≡ w)
-InputReads w (refused n) = (1 ≤ n) × (n ≤ 3)
+InputReads w (refused n) = Unread w n
+
+-- out of range, with the word of its event
+ranged_reads : (w : ℕ) (e : Event) (n : ℕ) → OutOfRange e n → word_of e ≡ w → Unread w n
+ranged_reads w e n o is = ⊎_elim (λ r. inl (omega (arith, r.0))) (λ r. inr (r.0, ap word_of (sym r.1) ∙ is)) o
 
 judged_reads : (named x w : ℕ) (i : Input) → (x < named → input_word i ≡ w) → InputReads w (judged named x i)
-unfolding judged InputReads
+unfolding judged InputReads word_of
 judged_reads named x w i h = pick_case (InputReads w) (leb named x) _ _
-    (λ t. omega arith)
-    (λ t. pick_case (InputReads w) (not (input_range i)) _ _ (λ u. omega arith) (λ u. (not-false _ u, h (leb-false _ _ t))))
+    (λ t. inl (omega arith))
+    (λ t. pick_case (InputReads w) (not (input_range i)) _ _
+    (λ u. ranged_reads w (event.Input i) _ (range_number i) (h (leb-false _ _ t))) (λ u. (not-false _ u, h (leb-false _ _ t))))
 
 -- of a word of kind k with the body x
 module _ (k x w : ℕ) (is : k * 268435456 + x ≡ w) where
@@ -132,17 +188,17 @@ module _ (k x w : ℕ) (is : k * 268435456 + x ≡ w) where
       (λ _. pick_case (InputReads w) (eqb k 3) _ _ (λ t. one_reads 3 4 (ForeBack x) refl (eqb-true k 3 t))
       (λ _. pick_case (InputReads w) (leb 4 k && ltb k 10) _ _
       (λ t. key_on_reads (leb-true 4 k (and_l (leb 4 k) (ltb k 10) t)) (ltb-true k 10 (and_r (leb 4 k) (ltb k 10) t)))
-      (λ _. omega arith))))
+      (λ _. inl (omega arith)))))
 
--- what the reading of a word says: an event in range that has this word, or a refusal from 1 to 3
+-- what the reading of a word says: an event in range that has this word, or its refusal
 unfoldable Reads : ℕ → Answer Event → Type 0
 Reads w (gives e) = (in_range e ≡ true) × (word_of e ≡ w)
-Reads w (refused n) = (1 ≤ n) × (n ≤ 3)
+Reads w (refused n) = Unread w n
 
 tick_reads : (w : ℕ) → kind_of w ≡ 10 → Reads w (tick_word (body_of w))
 unfolding tick_word Reads in_range word_of
 tick_reads w e = pick_case (Reads w) (leb 2 (body_of w)) _ _
-    (λ t. omega arith)
+    (λ t. inl (omega arith))
     (λ t. let h : body_of w < 2 = leb-false 2 (body_of w) t in (refl, omega (arith, flag_bit (body_of w) (omega arith))))
 
 input_reads : (w : ℕ) (a : Answer Input) → InputReads w a → Reads w (input_event a)
@@ -164,10 +220,24 @@ read_own w e h = subst (Reads w) h (reads w)
 pub read_in_range : (w : ℕ) (e : Event) → read_of w ≡ gives e → in_range e ≡ true
 read_in_range w e h = (read_own w e h).0
 
--- a refused word is refused with 1, 2 or 3
-pub refused_number : (w n : ℕ) → read_of w ≡ refused n → (1 ≤ n) × (n ≤ 3)
+-- a refused word is refused with 1, 2 or 3, or with 24 where it is the gap choice 30
+pub refused_number : (w n : ℕ) → read_of w ≡ refused n → Unread w n
 unfolding Reads
 refused_number w n h = subst (Reads w) h (reads w)
+
+pub refused_some : (w n : ℕ) → read_of w ≡ refused n → 1 ≤ n
+refused_some w n h = ⊎_elim (λ r. r.0) (λ r. omega (arith, r.0)) (refused_number w n h)
+
+-- 24 exactly for the gap choice 30
+pub gap_30_unread : read_of (word_of gap_30) ≡ refused 24
+unfolding read_of word_of input_word input_of inputs_of key_on_of judged permitted_gap input_range range_refusal input_event pick
+gap_30_unread = refl
+
+pub unread_24 : (w : ℕ) → read_of w ≡ refused 24 ↔ word_of gap_30 ≡ w
+unread_24 w = (
+  λ h. ⊎_elim (λ r. absurd (omega (arith, r.1))) (λ r. r.1) (refused_number w 24 h),
+  λ h. ap read_of (sym h) ∙ gap_30_unread,
+)
 
 -- a word read and written again has the same bits
 pub read_written : (w : ℕ) (e : Event) → read_of w ≡ gives e → write_of e ≡ gives w

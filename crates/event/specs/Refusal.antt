@@ -29,6 +29,7 @@ refusal_number refusal.ShortRecord = 20
 refusal_number refusal.CutWord = 21
 refusal_number refusal.BadFloat = 22
 refusal_number refusal.TooFast = 23
+refusal_number refusal.GapWithdrawn = 24
 
 -- what a result says: a value, or the refusal's number
 abbrev pub answer : {A : Type 0} → Result A Refusal → Answer A

@@ -1,4 +1,4 @@
--- Event words: document 01, "Event words", and the checks 1, 2 and 3 of "From file, pupil, radar, clock and caller".
+-- Event words: document 01, "Event words", and the checks 1, 2 and 3 of "From file, pupil, radar, clock and caller", with document 02's 24 (§12).
 -- Assumes nothing.
 use Rattle.std.specs.Prelude.{Bool, true, ◌&&◌, ◌||◌, not, ℕ, ◌+◌, ◌*◌, ◌/◌, ◌%◌, eqb, leb, ltb}
 use Rattle.kit.specs.Answer.{Answer, gives, refused}
@@ -28,9 +28,9 @@ input_kind (Gap tenths) = 7
 input_kind (Sign s) = 8
 input_kind (Radar range speed) = 9
 
--- "G chosen gap in tenths of a second: 20, 25 or 30"
+-- "G chosen gap in tenths of a second: 20, 25", and no more the longest: "No car in the showroom offers 3.0 seconds any more"
 unfoldable pub permitted_gap : ℕ → Bool
-permitted_gap n = eqb n 20 || eqb n 25 || eqb n 30
+permitted_gap n = eqb n 20 || eqb n 25
 
 -- every value in its field's range
 unfoldable pub input_range : Input → Bool
@@ -48,15 +48,27 @@ unfoldable pub in_range : Event → Bool
 in_range (event.Input i) = input_range i
 in_range (event.Tick ready) = true
 
+-- what a value outside its field's range is refused with: 3; "24, and not 3, the gap choice 30"
+unfoldable pub range_refusal : Input → ℕ
+range_refusal (Key position ready) = 3
+range_refusal (UpDown x) = 3
+range_refusal (ForeBack x) = 3
+range_refusal (Brake x) = 3
+range_refusal (Gas x) = 3
+range_refusal (Button limit) = 3
+range_refusal (Gap tenths) = pick (eqb tenths 30) 24 3
+range_refusal (Sign s) = 3
+range_refusal (Radar range speed) = 3
+
 -- 2: an unnamed bit set, in a body whose kind's named bits are those below `named`; else 0
 unfoldable pub unnamed_of : ℕ → ℕ → ℕ
 unnamed_of named x = pick (leb named x) 2 0
 
--- 2, then 3: a value outside its field's range
+-- 2, then 3 or 24: a value outside its field's range
 unfoldable pub judged : ℕ → ℕ → Input → Answer Input
 judged named x i =
     pick (leb named x) (refused 2)
-    (pick (not (input_range i)) (refused 3)
+    (pick (not (input_range i)) (refused (range_refusal i))
     (gives i))
 
 -- "1 key: bits 0-1 the key (0..2), bit 2 ready"
@@ -124,9 +136,10 @@ unfoldable pub word_of : Event → ℕ
 word_of (event.Input i) = input_word i
 word_of (event.Tick ready) = 10 * 268435456 + bit_of ready
 
--- "one with a value that check 3 refuses gives 3 and no word"
+-- "one with a value that check 3 refuses gives 3 and no word"; 24 "given for writing such an event too". A tick has no value outside a range
 abbrev pub input_writing : Input → Answer ℕ
-input_writing i = pick (not (input_range i)) (refused 3) (gives (input_word i))
+input_writing i = pick (not (input_range i)) (refused (range_refusal i)) (gives (input_word i))
 
 unfoldable pub write_of : Event → Answer ℕ
-write_of e = pick (not (in_range e)) (refused 3) (gives (word_of e))
+write_of (event.Input i) = input_writing i
+write_of (event.Tick ready) = gives (word_of (event.Tick ready))

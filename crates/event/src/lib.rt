@@ -4,8 +4,8 @@
 ghost use Rattle.std.specs.Prelude.{◌≡◌, true, not, eqb, ◌≤◌};
 ghost use Rattle.kit.specs.Answer.{gives, refused};
 ghost use Rattle.kit.specs.Pick.{pick};
-ghost use Rattle.event.specs.Refusal.{answer, number};
-ghost use Rattle.event.specs.Words.{kind_of, input_kind, body_of, permitted_gap, input_range, unnamed_of, judged, key_word, radar_word, inputs_of, input_of, ready_of, tick_word, read_of, bit_of, input_word, input_writing, write_of};
+ghost use Rattle.event.specs.Refusal.{refusal_number, answer, number};
+ghost use Rattle.event.specs.Words.{kind_of, input_kind, body_of, permitted_gap, input_range, range_refusal, unnamed_of, judged, key_word, radar_word, inputs_of, input_of, ready_of, tick_word, read_of, bit_of, input_word, input_writing, write_of};
 
 use number::bound;
 
@@ -168,7 +168,7 @@ fn unnamed(named: u32, body: u32) -> Result<(), Refusal>
     Ok(())
 }
 
-// Checks 2 and 3: an unnamed bit, and a value outside its range.
+// Checks 2, 3 and 24: an unnamed bit, and a value outside its range.
 #[tactic(auto, using(kit::specs::Pick::picks), unfolding(crate::specs::Words::judged, crate::specs::Words::unnamed_of))]
 fn judge(named: u32, body: u32, input: Input) -> Result<Input, Refusal>
     ensures { answer result ≡ judged named body input }
@@ -177,14 +177,25 @@ fn judge(named: u32, body: u32, input: Input) -> Result<Input, Refusal>
     ranged(input)
 }
 
-// Check 3: a value outside its range.
+// Checks 3 and 24: a value outside its range.
 fn ranged(input: Input) -> Result<Input, Refusal>
-    ensures { answer result ≡ pick (not (input_range input)) (refused 3) (gives input) }
+    ensures { answer result ≡ pick (not (input_range input)) (refused (range_refusal input)) (gives input) }
 {
     if !input_in_range(input) {
-        return Err(Refusal::OutOfRange);
+        return Err(range_refusal(input));
     }
     Ok(input)
+}
+
+// Of a value outside its range: the gap that was once the longest has a number of its own.
+#[tactic(auto, using(kit::specs::Pick::picks), unfolding(crate::specs::Words::range_refusal))]
+fn range_refusal(input: Input) -> Refusal
+    ensures { refusal_number result ≡ range_refusal input }
+{
+    match input {
+        Input::Gap(30) => Refusal::GapWithdrawn,
+        _ => Refusal::OutOfRange,
+    }
 }
 
 #[tactic(auto, using(kit::specs::Pick::picks), unfolding(crate::specs::Words::input_range))]
@@ -209,7 +220,7 @@ fn input_in_range(input: Input) -> bool
 pub fn permitted_gap(tenths: u32) -> bool
     ensures { result ≡ permitted_gap tenths }
 {
-    (tenths == 20) | (tenths == 25) | (tenths == 30)
+    (tenths == 20) | (tenths == 25)
 }
 
 #[tactic(auto, using(kit::specs::Pick::picks), unfolding(crate::specs::Words::write_of, crate::specs::Words::in_range, crate::specs::Words::word_of, kit::specs::Pick::pick))]

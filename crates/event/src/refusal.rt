@@ -33,6 +33,8 @@ pub enum Refusal {
     // The scene engine.
     BadFloat = 22,
     TooFast = 23,
+    // Whoever wrote the file while 3.0 seconds could be chosen.
+    GapWithdrawn = 24,
 }
 
 impl From<Refusal> for u32 {

@@ -9,7 +9,7 @@ use Rattle.kit.specs.Pick.{pick_true, pick_false, picks, and_both, and_left, and
 use Rattle.car.specs.declared.Car.{Car}
 use Rattle.car.specs.Good.{good_of}
 use Rattle.record.specs.Layout.{packed, unpacked}
-use Rattle.record.specs.Record.{Written, same_words, write_of, read_of, saved_refusal, saved_buffer}
+use Rattle.record.specs.Record.{Written, same_words, write_of, offered, read_of, saved_refusal, saved_buffer}
 use Rattle.record.proofs.RecordLaws.{same_eq, same_self, not_accepted, written_yes, written_no}
 use Rattle.record.proofs.Sameness.{pointwise_same}
 use lib.Pointwise.{pointwise}
@@ -22,12 +22,12 @@ pub write_no : (c : Car) → good_of c ≡ false → record { refusal = 18; word
 unfolding write_of
 write_no c g = sym (pick_false _ _ _ g)
 
--- ---- the car that words give, and that car's words p, compared with them
+-- ---- the car that words' fields say, and that car's words p, compared with them
 module _ (ws : List ℕ) (c : Car) (p : List ℕ) (e : c ≡ unpacked ws) (h : p ≡ packed c) where
   pub equal : not (pointwise nat_eq p ws) ≡ false → packed c ≡ ws
   equal t = sym h ∙ same_eq p ws (sym (pointwise_same p ws) ∙ not-false _ t)
 
-  pub read_yes : good_of c ≡ true → packed c ≡ ws → gives c ≡ read_of ws
+  pub read_yes : good_of (offered c) ≡ true → packed c ≡ ws → gives (offered c) ≡ read_of ws
   unfolding read_of
   read_yes g q = rw e (sym (pick_true _ _ _ (and_both _ _ (rw e at g) (rw (rw e at q) (same_self ws)))))
 
@@ -35,11 +35,11 @@ module _ (ws : List ℕ) (c : Car) (p : List ℕ) (e : c ≡ unpacked ws) (h : p
   unfolding read_of
   read_other t =
       let s : same_words (packed (unpacked ws)) ws ≡ false = rw (h ∙ ap packed e) at (sym (pointwise_same p ws) ∙ not_is _ t) in
-      sym (pick_false _ _ _ (and_right (good_of (unpacked ws)) _ s))
+      sym (pick_false _ _ _ (and_right (good_of (offered (unpacked ws))) _ s))
 
-pub read_no : (ws : List ℕ) (c : Car) → c ≡ unpacked ws → good_of c ≡ false → refused 18 ≡ read_of ws
+pub read_no : (ws : List ℕ) (c : Car) → c ≡ unpacked ws → good_of (offered c) ≡ false → refused 18 ≡ read_of ws
 unfolding read_of
-read_no ws c e g = sym (pick_false _ _ _ (and_left (good_of (unpacked ws)) (same_words (packed (unpacked ws)) ws) (rw e at g)))
+read_no ws c e g = sym (pick_false _ _ _ (and_left (good_of (offered (unpacked ws))) (same_words (packed (unpacked ws)) ws) (rw e at g)))
 
 pub read_length : (ws : List ℕ) → (length ws ≡ 12 → ⊥) → refused 18 ≡ read_of ws
 read_length ws h = sym (not_accepted ws (λ a. h a.twelve))

@@ -1,10 +1,10 @@
-// A car's record (document 01, "The record"): twelve words, written from a good car and read back. Functions, and no
+// A car's record (document 01, "The record", and document 02, §12): twelve words, written from a good car and read back. Functions, and no
 // `TryFrom`, as in layout.rt.
 #![tactic(auto, using(kit::specs::Pick::picks))]
 
 ghost use Rattle.std.specs.Prelude.{◌≡◌};
 ghost use Rattle.event.specs.Refusal.{answer, number};
-ghost use Rattle.record.specs.Record.{written_answer, read_of, write_of, saved_refusal, saved_buffer};
+ghost use Rattle.record.specs.Record.{written_answer, offered, read_of, write_of, saved_refusal, saved_buffer};
 ghost use Rattle.record.specs.RecordLesson.{lesson_answer, lesson_left, run_answer, run_left};
 
 use car::Car;
@@ -23,12 +23,24 @@ pub fn write(car: Car) -> Result<[u32; 12], Refusal>
     Ok(layout::pack(car))
 }
 
-// The car that the words' fields say, where it is good and these are its words.
+// The gap 30 of a record is 25 in its car.
+#[tactic(auto, using(kit::specs::Pick::picks), unfolding(crate::specs::Record::offered, car::specs::Car::with_gap))]
+fn offered(mut car: Car) -> Car
+    ensures { result ≡ offered car }
+{
+    if car.gap == 30 {
+        car.gap = 25;
+    }
+    car
+}
+
+// The car that the words' fields say, where it is good and the words are those of the fields.
 pub fn read(words: [u32; 12]) -> Result<Car, Refusal>
     ensures { answer result ≡ read_of words }
 {
-    let car = layout::unpack(words);
-    if !car.good() || layout::pack(car) != words {
+    let held = layout::unpack(words);
+    let car = offered(held);
+    if !car.good() || layout::pack(held) != words {
         return Err(Refusal::NotAccepted);
     }
     Ok(car)
@@ -99,32 +111,40 @@ impl From<RunOutcome> for Outcome {
 }
 
 // A lesson of the car whose record lent words are, up to the first word that passes the mark `halt` (0: nowhere), with the seconds that ended at
-// `mark` or above: the record of the car afterwards takes its place. The car's own test is the lesson's, and made once.
-// Words, answers and the two marks come one by one, as the car's own lesson takes them.
+// `mark` or above: the record of the car afterwards takes its place where at least `least` words were accepted. The car's own test is the lesson's,
+// and made once. Words, answers and the two marks come one by one, as the car's own lesson takes them.
 pub fn run(
     words: &mut [u32],
     events: &[u32],
     answers: &mut [u32],
     halt: u32,
     mark: u32,
+    least: usize,
 ) -> Result<RunOutcome, Refusal>
-    ensures { run_answer result words.new answers.new ≡ run_left halt mark words.old (read_of words.old) events.now answers.old }
+    ensures { run_answer result words.new answers.new ≡ run_left halt mark least words.old (read_of words.old) events.now answers.old }
 {
     let Ok(record) = <[u32; 12]>::try_from(&*words) else {
         return Err(Refusal::NotAccepted);
     };
-    let car = layout::unpack(record);
-    if layout::pack(car) != record {
+    let held = layout::unpack(record);
+    if layout::pack(held) != record {
         return Err(Refusal::NotAccepted);
     }
-    let ran = car.run(events, answers, halt, mark)?;
-    words.copy_from_slice(&layout::pack(ran.car));
+    let ran = offered(held).run(events, answers, halt, mark)?;
+    if ran.accepted >= least {
+        words.copy_from_slice(&layout::pack(ran.car));
+    }
     Ok(RunOutcome::from(ran))
 }
 
-// A lesson of the car whose record lent words are.
-pub fn lesson(words: &mut [u32], events: &[u32], answers: &mut [u32]) -> Result<Outcome, Refusal>
-    ensures { lesson_answer result words.new answers.new ≡ lesson_left words.old (read_of words.old) events.now answers.old }
+// A lesson of the car whose record lent words are, written where at least `least` words were accepted.
+pub fn lesson(
+    words: &mut [u32],
+    events: &[u32],
+    answers: &mut [u32],
+    least: usize,
+) -> Result<Outcome, Refusal>
+    ensures { lesson_answer result words.new answers.new ≡ lesson_left least words.old (read_of words.old) events.now answers.old }
 {
-    Ok(Outcome::from(run(words, events, answers, 0, 0)?))
+    Ok(Outcome::from(run(words, events, answers, 0, 0, least)?))
 }

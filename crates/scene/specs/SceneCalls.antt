@@ -40,7 +40,7 @@ scene_ends c (x ∷ xs) = scene_ends (car_after c x) xs
 pub record Seeing (c : Car) (xs : List SceneCall) : Type 0 where
   -- after each call the car is that which demand 3's calls give
   pub car : (ys zs : List SceneCall) → xs ≡ ys ++ zs → scene_ends c ys ≡ ends c (heard_all ys)
-  -- a sighting with an event gives what the checks 1 to 16 and the rules give of its word
+  -- a sighting with an event gives what the checks and the rules give of its word
   pub event : (ys : List SceneCall) (s : Sighting) (zs : List SceneCall) (w : ℕ) → xs ≡ ys ++ see s ∷ zs → seen_word s ≡ gives (Some w)
       → see_of (scene_ends c ys) s ≡ told_of (step_of (scene_ends c ys) w)
   -- a fault changes nothing and says so

@@ -31,7 +31,7 @@ slowest mode range ready =
       limiter = record { button = true; on = false; limit = 700 };
       cruise = record { on = true; desired = 1998; manual = 1200 };
       radar = record { ready = ready; range = range; lead = 300; earlier = 500; tested = 5 };
-      gap = 30;
+      gap = 25;
       speed = 4;
       now = 40;
     }

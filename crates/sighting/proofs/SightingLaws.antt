@@ -19,7 +19,7 @@ use Rattle.event.proofs.WordLaws.{word_read, in_range_written}
 use Rattle.sighting.specs.declared.Sighting.{Sighting}
 use Rattle.sighting.specs.declared.Sighting.TheVariants.{Vehicle, Free, Fault}
 use Rattle.sighting.specs.Exactly.{Reaches, Below, Above, Usable, Reads, Exactly}
-use Rattle.sighting.specs.Sighting.{free_road, reading_of, vehicle_of, seen_of}
+use Rattle.sighting.specs.Sighting.{free_road, reading_of, vehicle_of, seen_of, as_word, seen_word}
 use Rattle.sighting.specs.Value.{unusable, above, floor_times}
 
 -- ---- the whole number at or below a multiple of a usable float
@@ -157,6 +157,15 @@ refused_number (Vehicle metres kmh) n e = either (unusable metres || unusable km
     (λ b. either (above 500 kmh)
     (λ a. inr (cc (vehicle_23 metres kmh b a, e)))
     (λ a. absurd (given_refused n (sym (vehicle_event metres kmh b a) ∙ e))))
+
+pub word_refused : (s : Sighting) (n : ℕ) → seen_word s ≡ refused n → n ≡ 0 → ⊥
+unfolding seen_word as_word
+word_refused s n h z = go (seen_of s) refl h
+  where
+    go : (a : Answer (Option Event)) → seen_of s ≡ a → as_word a ≡ refused n → ⊥
+    go (gives (Some e)) q h = given_refused n h
+    go (gives None) q h = given_refused n h
+    go (refused m) q h = let r : m ≡ n = cc h in ⊎_elim (λ t. omega (arith, t, r, z)) (λ t. omega (arith, t, r, z)) (refused_number s m q)
 
 pub none_fault : (s : Sighting) → seen_of s ≡ gives None → s ≡ Fault
 unfolding seen_of

@@ -8,14 +8,18 @@ use Rattle.kit.specs.Answer.{Answer, gives, refused}
 use Rattle.kit.specs.Pick.{pick, pick_true, pick_false, either, and_l, and_r, or_right}
 use Rattle.event.specs.Words.{kind_of, body_of, bit_of}
 use Rattle.car.specs.declared.Car.{Car}
+use Rattle.car.specs.declared.Settings.{Settings}
 use Rattle.car.specs.Car.{fresh_car, settings_of, Permitted, check17, fresh_of, ceiling_of}
 use Rattle.car.specs.Good.{good_at, good_of}
 use Rattle.car.proofs.FreshLaws.{permitted_good}
 use Rattle.record.specs.Layout.{packed, unpacked, car_of}
-use Rattle.record.specs.Record.{read_of}
-use Rattle.record.proofs.RecordLaws.{same_eq, packed_read, read_accepted}
+use Rattle.record.specs.LayoutShape.{Fits}
+use Rattle.record.specs.Record.{same_words, offered, read_of}
+use Rattle.record.proofs.RecordLaws.{same_eq, packed_read, held_read, read_accepted}
 use Rattle.settings.specs.SettingsWord.{settings_kind, mode_of, signs_of, towing_of, start_of}
 use Rattle.settings.proofs.SettingsWordLaws.{started_written}
+use Rattle.longest_gap.specs.ReaderBefore.{good_before, offering}
+use Rattle.longest_gap.proofs.ReaderLaws.{good_offered, offered_settings, offering_pick}
 use Rattle.towing.specs.ReadersBefore.{packed_before, unpacked_before, accepted_before, read_before, bit_14, RecordsAsBefore, made_before, other_before, start_before, bit_3, SettingsAsBefore}
 
 same_answer : {A : Type 0} (a b : A) → gives a ≡ gives b → a ≡ b
@@ -41,21 +45,30 @@ module _ (ws : List ℕ) where
   unpacked_alone = refl
 
   -- what the reader from before takes is the record of its car
-  taken : accepted_before ws ≡ true → (good_at 2000 (unpacked_before ws) ≡ true) × (packed_before (unpacked_before ws) ≡ ws)
+  taken : accepted_before ws ≡ true → (good_before 2000 (unpacked_before ws) ≡ true) × (packed_before (unpacked_before ws) ≡ ws)
   unfolding accepted_before
   taken h = search (and_l, and_r, same_eq)
 
-  -- and its car is a good car alone, which the record gives still
-  alone_record : (c : Car) → read_before ws ≡ gives c → (c.settings.towing ≡ false) × (read_of ws ≡ gives c)
+  fits_before : Fits (unpacked_before ws)
+  unfolding unpacked_before car_of
+  fits_before = omega arith
+
+  -- and its car is a good car alone with 25 for the gap 30, which the record gives still
+  good_offered_alone : good_before 2000 (unpacked_before ws) ≡ good_of (offered (unpacked_before ws))
+  good_offered_alone =
+      let u = unpacked_before ws in
+      good_offered 2000 u ∙ good_alone (offered u) (ap (λ (s : Settings). s.towing) (offered_settings u) ∙ unpacked_alone)
+
+  alone_record : (c : Car) → read_before ws ≡ gives c → (c.settings.towing ≡ false) × (read_of ws ≡ gives (offered c))
   unfolding read_before
   alone_record c h =
       let u = unpacked_before ws in
       either (accepted_before ws)
       (λ t.
       let e : u ≡ c = same_answer _ _ (sym (pick_true _ _ _ t) ∙ h) in
-      let g : good_of u ≡ true = sym (good_alone u unpacked_alone) ∙ (taken t).0 in
+      let g : good_of (offered u) ≡ true = sym good_offered_alone ∙ (taken t).0 in
       let p : packed u ≡ ws = sym (packed_alone u unpacked_alone) ∙ (taken t).1 in
-      rw (← e) (unpacked_alone, rw p at (packed_read u g)))
+      rw (← e) (unpacked_alone, rw p at (held_read u fits_before g)))
       (λ t. differ c 18 (sym h ∙ pick_false _ _ _ t))
 
   -- it refuses with 18 alone
@@ -70,8 +83,9 @@ module _ (ws : List ℕ) where
       go : (a : Answer Car) → read_before ws ≡ a → read_before ws ≡ refused 18
       go (gives d) e =
           let k = alone_record d e in
-          let s : c ≡ d = same_answer c d (sym h ∙ k.1) in
-          absurd (false≢true (sym k.0 ∙ ap (λ (x : Car). x.settings.towing) (sym s) ∙ t))
+          let s : c ≡ offered d = same_answer c (offered d) (sym h ∙ k.1) in
+          let a : c.settings.towing ≡ d.settings.towing = ap (λ (x : Car). x.settings.towing) s ∙ ap (λ (x : Settings). x.towing) (offered_settings d) in
+          absurd (false≢true (sym k.0 ∙ sym a ∙ t))
       go (refused n) e = refused_with_18 n e
 
   unpacked_bit : (unpacked ws).settings.towing ≡ eqb (bit_14 ws) 1
@@ -79,7 +93,7 @@ module _ (ws : List ℕ) where
   unpacked_bit = ap (λ (n : ℕ). eqb n 1) (omega arith)
 
   towing_bit : (c : Car) → read_of ws ≡ gives c → c.settings.towing ≡ eqb (bit_14 ws) 1
-  towing_bit c h = rw (read_accepted ws c h).1 unpacked_bit
+  towing_bit c h = rw (read_accepted ws c h).1 (ap (λ (s : Settings). s.towing) (offered_settings (unpacked ws)) ∙ unpacked_bit)
 
   -- without the bit the fields are the same, and so is what the two readers give
   unpacked_same : bit_14 ws ≡ 0 → unpacked ws ≡ unpacked_before ws
@@ -89,9 +103,11 @@ module _ (ws : List ℕ) where
       let z : w / 2 ^ 2 / 2 ^ 1 / 2 ^ 2 / 2 ^ 3 / 2 ^ 2 / 2 ^ 1 / 2 ^ 1 / 2 ^ 1 / 2 ^ 1 % 2 ^ 1 ≡ 0 = omega arith in
       rw z refl
 
-  old_record : bit_14 ws ≡ 0 → read_of ws ≡ read_before ws
+  old_record : bit_14 ws ≡ 0 → read_of ws ≡ offering (read_before ws)
   unfolding read_of read_before accepted_before
-  old_record h = let u = unpacked_before ws in rw (unpacked_same h, good_alone u unpacked_alone, packed_alone u unpacked_alone) refl
+  old_record h =
+      let u = unpacked_before ws in
+      rw (unpacked_same h, good_offered_alone, packed_alone u unpacked_alone) (offering_pick (good_of (offered u) && same_words (packed u) ws) u)
 
 pub records : (ws : List ℕ) → RecordsAsBefore ws
 records ws = record { old = old_record ws; alone = alone_record ws; bit = towing_bit ws; towing = towing_record ws }

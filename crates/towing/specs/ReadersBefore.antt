@@ -8,10 +8,10 @@ use Rattle.kit.specs.Pick.{pick}
 use Rattle.event.specs.Words.{kind_of, body_of}
 use Rattle.car.specs.declared.Car.{Car}
 use Rattle.car.specs.Car.{fresh_car}
-use Rattle.car.specs.Good.{good_at}
 use Rattle.record.specs.Layout.{Field, bits, flag, layout, words_from, fields_from, car_of}
-use Rattle.record.specs.Record.{same_words, read_of}
+use Rattle.record.specs.Record.{same_words, offered, read_of}
 use Rattle.settings.specs.SettingsWord.{settings_kind, mode_of, start_of}
+use Rattle.longest_gap.specs.ReaderBefore.{good_before, offering}
 
 -- ---- a record
 -- "0: mode (2), signs, key (2), L (3), M (2), H, S, C, P"; the other words are as they are
@@ -29,9 +29,9 @@ packed_before c = words_from c 0 layout_before
 unfoldable pub unpacked_before : List ℕ → Car
 unpacked_before ws = car_of (fields_from 0 layout_before ws)
 
--- accepted: the car that the words' fields say is good by the ceiling 2000, and these are its words
+-- accepted: the car that the words' fields say is good by the ceiling 2000, when 3.0 seconds could be chosen too, and these are its words
 unfoldable pub accepted_before : List ℕ → Bool
-accepted_before ws = good_at 2000 (unpacked_before ws) && same_words (packed_before (unpacked_before ws)) ws
+accepted_before ws = good_before 2000 (unpacked_before ws) && same_words (packed_before (unpacked_before ws)) ws
 
 -- that car, or 18
 unfoldable pub read_before : List ℕ → Answer Car
@@ -42,9 +42,10 @@ abbrev pub bit_14 : List ℕ → ℕ
 bit_14 ws = get_or ws 0 0 / 2 ^ 14 % 2
 
 pub record RecordsAsBefore (ws : List ℕ) : Type 0 where
-  -- "Old records .. read as a car alone, with all they held": the car is the one that they gave, and every refusal is as it was
-  pub old : bit_14 ws ≡ 0 → read_of ws ≡ read_before ws
-  pub alone : (c : Car) → read_before ws ≡ gives c → (c.settings.towing ≡ false) × (read_of ws ≡ gives c)
+  -- "Old records .. read as a car alone, with all they held": the car is the one that they gave, but for the gap 30, which §12 makes 25, and every
+  -- refusal is as it was
+  pub old : bit_14 ws ≡ 0 → read_of ws ≡ offering (read_before ws)
+  pub alone : (c : Car) → read_before ws ≡ gives c → (c.settings.towing ≡ false) × (read_of ws ≡ gives (offered c))
   -- a towing record is one with the bit
   pub bit : (c : Car) → read_of ws ≡ gives c → c.settings.towing ≡ eqb (bit_14 ws) 1
   -- "A reader from before must refuse a towing record as one that it doesn't accept"

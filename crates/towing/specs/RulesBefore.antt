@@ -1,5 +1,6 @@
 -- The rules before document 02, §11, by which D was at most 2000 for every car and a sign's D was not cut; they stand in this file alone. What is
--- promised of them: "Old records and files read as a car alone, with all they held", so that they run as before.
+-- promised of them: "Old records and files read as a car alone, with all they held", so that they run as before. Event words are as they are: what §12
+-- turned away of them is turned away here.
 -- Assumes nothing.
 use Rattle.std.specs.Prelude.{Bool, ◌≡◌, List, [], ◌∷◌, ◌++◌, ℕ, ◌+◌, ◌-◌, min, eqb, ltb, length, drop}
 use Rattle.kit.specs.Answer.{Answer, gives, refused}
@@ -100,7 +101,7 @@ unfoldable pub reading_before : Car → Answer Event → Car
 reading_before c (refused n) = c
 reading_before c (gives e) = event_before c e
 
--- a word driven; the checks 1 to 16 are as they were
+-- a word driven; its checks are as they are
 unfoldable pub step_before : Car → ℕ → Driven
 step_before c w = chosen c (check_of c w) (reading_before c (read_of w))
 

@@ -2,7 +2,7 @@
 -- One lemma for one word, then list inductions over a good car, then one lemma for a call.
 -- Assumes nothing.
 use Rattle.std.specs.Prelude.{Bool, true, false, ◌≡◌, refl, List, [], ◌∷◌, ◌++◌, ℕ, ◌+◌, ◌-◌, eqb, ltb, length, drop}
-use Rattle.std.proofs.Common.{sym, ap, ◌∙◌, arith, lt-ltb, le-ltb}
+use Rattle.std.proofs.Common.{⊎_elim, sym, ap, ◌∙◌, arith, lt-ltb, le-ltb}
 use Rattle.kit.specs.Pick.{pick, pick_true, pick_false, and_left, no}
 use Rattle.event.specs.declared.Event.{Event}
 use Rattle.car.specs.declared.Car.{Car}
@@ -14,7 +14,7 @@ use Rattle.car.specs.Good.{good_of, lever_held}
 use Rattle.car.proofs.FreshLaws.{permitted_good}
 use Rattle.car.proofs.GoodLaws.{good}
 use Rattle.car.specs.Lesson.{driven, answers_of, taught_of, untaught, lesson_of, answers_after, each_after}
-use Rattle.car.proofs.LessonLaws.{driven_good, refusal_le, counts_all}
+use Rattle.car.proofs.LessonLaws.{driven_good, refusal_number, counts_all}
 use Rattle.car.proofs.StepLaws.{step_good, drive_step}
 use Rattle.history.specs.Neighbours.{is_lever}
 use Rattle.history.specs.History.{accepted_lever, ticks_of, levers_of, Since, never}
@@ -212,7 +212,7 @@ either false m n k f g = g
 
 never_18_of : (c : Car) (k : Call) → good_of c ≡ true → refusal_of (outcome c k) ≡ 18 → ⊥
 unfolding refusal_of given
-never_18_of c (word w) g h = let r = rw (outcome_given c (word w) g) at h in omega (arith, refusal_le c w)
+never_18_of c (word w) g h = let r = rw (outcome_given c (word w) g) at h in ⊎_elim (λ l. omega (arith, l, r)) (λ l. omega (arith, l, r)) (refusal_number c w)
 never_18_of c (lesson ws buffer) g h = either (ltb (length buffer) (length ws)) 19 0 18 (omega arith) (omega arith) (sym (lesson_refusal c ws buffer g) ∙ h)
 never_18_of c (keep buffer) g h = either (ltb (length buffer) 12) 20 0 18 (omega arith) (omega arith) (sym (record_refusal c buffer g) ∙ h)
 

@@ -56,7 +56,7 @@ unfoldable pub words : Car → List Call → List ℕ
 words c [] = []
 words c (k ∷ ks) = ran c k ++ words (car_of (outcome c k)) ks
 
--- ---- what the document gives for a call, by the checks 1 to 16, the rules, 19 and 20 alone: no good-car test, and a record call leaves the car
+-- ---- what the document gives for a call, by its words' checks, the rules, 19 and 20 alone: no good-car test, and a record call leaves the car
 unfoldable pub given : Car → Call → Outcome
 given c (word w) = drove (step_of c w)
 given c (lesson ws buffer) =

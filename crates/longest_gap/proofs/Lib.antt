@@ -1,0 +1,3 @@
+pub mod ReaderLaws
+pub mod RunsOnLaws
+pub mod WrittenAgainLaws

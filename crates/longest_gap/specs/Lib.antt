@@ -1,0 +1,3 @@
+pub mod ReaderBefore
+pub mod RunsOn
+pub mod WrittenAgain
