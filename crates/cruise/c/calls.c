@@ -74,9 +74,9 @@ static const uint32_t listed[WORDS] = {0xB0003111, 0xB100E100, 0xB20000D8, 0xB30
 /* The car of the document's figures: mode 2, key on, C, P, v 500, D 900, R 19, W 300, G 20. */
 static const uint32_t behind[WORDS] = {0xB0003012, 0xB1000000, 0xB20001F4, 0xB3000000, 0xB4000384, 0xB5000000,
                                        0xB6000000, 0xB7012C13, 0xB8000000, 0xB9000014, 0xBA000000, 0xBB000000};
-/* Outside: a car at the clock's end. */
+/* Outside, there with the gap 30: a car at the clock's end. */
 static const uint32_t at_end[WORDS] = {0xB0003416, 0xB1000000, 0xB2000824, 0xB3000175, 0xB40001F4, 0xB5000000,
-                                       0xB6000000, 0xB7134300, 0xB8001344, 0xB900001E, 0xBA015180, 0xBB014F2A};
+                                       0xB6000000, 0xB7134300, 0xB8001344, 0xB9000019, 0xBA015180, 0xBB014F2A};
 
 /* The document's listing. */
 static const uint32_t listing[10] = {0x10000001, 0x10000006, 0x500000E1, 0xA0000001, 0x4000000A,
@@ -1369,12 +1369,12 @@ static void drive_is(int line, const uint32_t *car, uint32_t word, uint32_t refu
     left(line, "the record", &record, after, WORDS);
 }
 
-/* Document 02, 12: a record that holds the gap 30 gives a car with 25. The car: `behind` with R 38 and W 300, so that N goes by the gap: 34 by 25, not too
+/* Document 02, 12: a record that holds the gap 30 gives a car with 25. The car: `behind` with R 38 and W 600, so that N goes by the gap: 34 by 25, not too
    close; by 30 it would be 41, and too close. */
 static void old_gap(void)
 {
-    static const uint32_t held[WORDS] = {0xB0003012, 0xB1000000, 0xB20001F4, 0xB3000000, 0xB4000384, 0xB5000000,
-                                         0xB6000000, 0xB7012C26, 0xB8000000, 0xB900001E, 0xBA000000, 0xBB000000};
+    static const uint32_t with_30[WORDS] = {0xB0003012, 0xB1000000, 0xB20001F4, 0xB3000000, 0xB4000384, 0xB5000000,
+                                         0xB6000000, 0xB7025826, 0xB8000000, 0xB900001E, 0xBA000000, 0xBB000000};
     /* Key on, radar not ready; key out. */
     static const uint32_t not_ready[WORDS] = {0xB0000011, 0xB1000000, 0xB2000000, 0xB3000000, 0xB4000000, 0xB5000000,
                                               0xB6000000, 0xB70000FF, 0xB8000000, 0xB900001E, 0xBA000000, 0xBB000000};
@@ -1394,61 +1394,61 @@ static void old_gap(void)
     static const uint32_t choices[4] = {0x7000001E, 0x10000001, 0x7000001E, 0x10000000};
     static const uint32_t chosen[2] = {0x10000001, 0x10000000};
     struct area record, answers;
-    uint32_t now[WORDS], after[WORDS];
+    uint32_t with_25[WORDS], after[WORDS];
     size_t accepted = 77, refused = 77;
-    copy(now, held);
-    now[9] = 0xB9000019;
+    copy(with_25, with_30);
+    with_25[9] = 0xB9000019;
 
     /* Read, it is the car with 25. */
-    EQUAL(cruise_test(lay(&record, held, WORDS), WORDS), CRUISE_ACCEPTED);
-    LEFT(record, held, WORDS);
-    dials(__LINE__, held, WORDS, 0, 500, 900, 10, 0, 0, 34);
-    dials(__LINE__, now, WORDS, 0, 500, 900, 10, 0, 0, 34);
-    two(__LINE__, held, now, 1);
-    two(__LINE__, held, held, 1);
-    copy(after, now);
+    EQUAL(cruise_test(lay(&record, with_30, WORDS), WORDS), CRUISE_ACCEPTED);
+    LEFT(record, with_30, WORDS);
+    dials(__LINE__, with_30, WORDS, 0, 500, 900, 10, 0, 0, 34);
+    dials(__LINE__, with_25, WORDS, 0, 500, 900, 10, 0, 0, 34);
+    two(__LINE__, with_30, with_25, 1);
+    two(__LINE__, with_30, with_30, 1);
+    copy(after, with_25);
     after[9] = 0xB9000014;
-    two(__LINE__, held, after, 0);
-    mark_is(__LINE__, held, WORDS, stored, 3, 530, 0, 1, 2);
-    mark_is(__LINE__, held, WORDS, stored, 3, 570, 0, 3, 1);
+    two(__LINE__, with_30, after, 0);
+    mark_is(__LINE__, with_30, WORDS, stored, 3, 530, 0, 1, 2);
+    mark_is(__LINE__, with_30, WORDS, stored, 3, 570, 0, 3, 1);
 
     /* Refused words leave it as it is, with the key out and on: 24 comes before 4. */
     for (size_t i = 0; i < sizeof turned_away / sizeof turned_away[0]; i++) {
-        drive_is(__LINE__, held, turned_away[i].word, turned_away[i].refusal, held);
+        drive_is(__LINE__, with_30, turned_away[i].word, turned_away[i].refusal, with_30);
     }
     drive_is(__LINE__, key_out, 0x7000001E, CRUISE_GAP_WITHDRAWN, key_out);
     drive_is(__LINE__, key_out, 0x7000001F, CRUISE_OUT_OF_RANGE, key_out);
     drive_is(__LINE__, key_out, 0x70000019, CRUISE_KEY_NOT_ON, key_out);
 
     /* Accepted ones write 25, also where they change nothing, or the gap that they choose. */
-    drive_is(__LINE__, held, 0x800001F4, CRUISE_ACCEPTED, now);
-    drive_is(__LINE__, held, 0x70000019, CRUISE_ACCEPTED, now);
-    drive_is(__LINE__, held, 0x70000014, CRUISE_ACCEPTED, after);
-    copy(after, now);
+    drive_is(__LINE__, with_30, 0x800001F4, CRUISE_ACCEPTED, with_25);
+    drive_is(__LINE__, with_30, 0x70000019, CRUISE_ACCEPTED, with_25);
+    drive_is(__LINE__, with_30, 0x70000014, CRUISE_ACCEPTED, after);
+    copy(after, with_25);
     after[2] = 0xB2000218;
     after[10] = 0xBA000001;
-    drive_is(__LINE__, held, 0xA0000001, CRUISE_ACCEPTED, after);
+    drive_is(__LINE__, with_30, 0xA0000001, CRUISE_ACCEPTED, after);
 
     /* So does a lesson that ran, whatever its words did. */
-    taught_is(__LINE__, held, NULL, NULL, 0, 0, now);
-    taught_is(__LINE__, held, none_taken, none_answers, 2, 0, now);
+    taught_is(__LINE__, with_30, NULL, NULL, 0, 0, with_25);
+    taught_is(__LINE__, with_30, none_taken, none_answers, 2, 0, with_25);
     after[2] = 0xB200023C;
     after[10] = 0xBA000002;
-    taught_is(__LINE__, held, stored, stored_answers, 3, 2, after);
-    EQUAL(cruise_lesson(lay(&record, held, WORDS), WORDS, stored, 3, lay(&answers, NULL, 0), 2, &accepted, &refused), CRUISE_SHORT_ANSWERS);
+    taught_is(__LINE__, with_30, stored, stored_answers, 3, 2, after);
+    EQUAL(cruise_lesson(lay(&record, with_30, WORDS), WORDS, stored, 3, lay(&answers, NULL, 0), 2, &accepted, &refused), CRUISE_SHORT_ANSWERS);
     EQUAL(accepted, 0);
     EQUAL(refused, 0);
-    LEFT(record, held, WORDS);
+    LEFT(record, with_30, WORDS);
     LEFT(answers, NULL, 0);
 
-    /* A sighting of 38 metres and 30 km/h; what is refused, and a fault, leave the record. */
-    copy(after, now);
-    after[8] = 0xB800012C;
-    see_is(__LINE__, held, CRUISE_SIGHTING_VEHICLE, 0x42180000, 0x41F00000, CRUISE_ACCEPTED, after);
-    see_is(__LINE__, held, CRUISE_SIGHTING_FAULT, 0x42180000, 0x41F00000, CRUISE_ACCEPTED, held);
-    see_is(__LINE__, held, 3, 0x42180000, 0x41F00000, CRUISE_NO_SUCH_KIND, held);
-    see_is(__LINE__, held, CRUISE_SIGHTING_VEHICLE, 0xBF800000, 0x41F00000, CRUISE_BAD_FLOAT, held);
-    see_is(__LINE__, held, CRUISE_SIGHTING_VEHICLE, 0x42180000, 0x43FA8000, CRUISE_TOO_FAST, held);
+    /* A sighting of 38 metres and 60 km/h; what is refused, and a fault, leave the record. */
+    copy(after, with_25);
+    after[8] = 0xB8000258;
+    see_is(__LINE__, with_30, CRUISE_SIGHTING_VEHICLE, 0x42180000, 0x42700000, CRUISE_ACCEPTED, after);
+    see_is(__LINE__, with_30, CRUISE_SIGHTING_FAULT, 0x42180000, 0x42700000, CRUISE_ACCEPTED, with_30);
+    see_is(__LINE__, with_30, 3, 0x42180000, 0x42700000, CRUISE_NO_SUCH_KIND, with_30);
+    see_is(__LINE__, with_30, CRUISE_SIGHTING_VEHICLE, 0xBF800000, 0x42700000, CRUISE_BAD_FLOAT, with_30);
+    see_is(__LINE__, with_30, CRUISE_SIGHTING_VEHICLE, 0x42180000, 0x43FA8000, CRUISE_TOO_FAST, with_30);
     see_is(__LINE__, not_ready, CRUISE_SIGHTING_FREE, 0, 0, CRUISE_RADAR_NOT_READY, not_ready);
     see_is(__LINE__, key_out, CRUISE_SIGHTING_FREE, 0, 0, CRUISE_KEY_NOT_ON, key_out);
 
@@ -1457,14 +1457,14 @@ static void old_gap(void)
     copy_is(__LINE__, 0xD0000001, choices, 4, 2, CRUISE_ACCEPTED, chosen, 2);
 
     /* 30 beside what no record has, and gaps that never were. */
-    changed(held, 9, 0xB900001D);
-    changed(held, 9, 0xB900001F);
-    changed(held, 9, 0xB900003E);
-    changed(held, 9, 0xB980001E);
-    changed(held, 9, 0xB800001E);
-    changed(held, 9, 0xA900001E);
-    changed(held, 10, 0xBA000258); /* now = Q + 600 */
-    changed(held, 4, 0xB4000000);  /* C with D = 0 */
+    changed(with_30, 9, 0xB900001D);
+    changed(with_30, 9, 0xB900001F);
+    changed(with_30, 9, 0xB900003E);
+    changed(with_30, 9, 0xB980001E);
+    changed(with_30, 9, 0xB800001E);
+    changed(with_30, 9, 0xA900001E);
+    changed(with_30, 10, 0xBA000258); /* now = Q + 600 */
+    changed(with_30, 4, 0xB4000000);  /* C with D = 0 */
 }
 
 int main(void)

@@ -48,17 +48,10 @@ unfoldable pub in_range : Event → Bool
 in_range (event.Input i) = input_range i
 in_range (event.Tick ready) = true
 
--- what a value outside its field's range is refused with: 3; "24, and not 3, the gap choice 30"
+-- what a value outside its field's range is refused with: 3, but "24, and not 3, the gap choice 30"
 unfoldable pub range_refusal : Input → ℕ
-range_refusal (Key position ready) = 3
-range_refusal (UpDown x) = 3
-range_refusal (ForeBack x) = 3
-range_refusal (Brake x) = 3
-range_refusal (Gas x) = 3
-range_refusal (Button limit) = 3
 range_refusal (Gap tenths) = pick (eqb tenths 30) 24 3
-range_refusal (Sign s) = 3
-range_refusal (Radar range speed) = 3
+range_refusal i = 3
 
 -- 2: an unnamed bit set, in a body whose kind's named bits are those below `named`; else 0
 unfoldable pub unnamed_of : ℕ → ℕ → ℕ

@@ -1,5 +1,5 @@
 // Lists the exercise files in data/, each cut into pieces of a size of its own: the expected output is their listings in the same order. All
-// are outside ones but roundabout.bin, kickdown.bin, settling.bin and towing.bin, whose listings, of the same names, were worked out by hand. The
+// are outside ones but roundabout.bin, kickdown.bin, settling.bin, towing.bin and old-gap.bin, whose listings, of the same names, were worked out by hand. The
 // longest, clock-end.bin, is the input of `lesson`.
 #![tactic(auto)]
 
@@ -84,11 +84,13 @@ fn pages(rt: &HostRuntime) -> Result<(), Told> {
 
 // Back to the old speed after a roundabout: D kept, taken by forward, and cleared. A car too close kicks down and lifts again. Cruise settles: from far
 // above, from far below and from one above, where v passes D and comes back. Towing, D ends at 1000 by the levers, by forward, by a hold and by signs.
+// A lesson stored while the gap 30 could be chosen runs on.
 fn by_hand(rt: &HostRuntime) -> Result<(), Told> {
     list(rt, b"vectors: roundabout.bin", 4)?;
     list(rt, b"vectors: kickdown.bin", 4)?;
     list(rt, b"vectors: settling.bin", 4)?;
-    list(rt, b"vectors: towing.bin", 4)
+    list(rt, b"vectors: towing.bin", 4)?;
+    list(rt, b"vectors: old-gap.bin", 5)
 }
 
 fn all(rt: &HostRuntime) -> Result<(), Told> {
