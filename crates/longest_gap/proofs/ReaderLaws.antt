@@ -4,7 +4,7 @@ use Rattle.std.specs.Prelude.{Bool, true, false, ◌&&◌, ◌||◌, ◌≡◌, 
 use Rattle.std.proofs.Common.{sym, ◌∙◌, ap, eqb-true}
 use Rattle.std.proofs.lemmas.Bool.{eqb-false}
 use Rattle.kit.specs.Answer.{gives, refused}
-use Rattle.kit.specs.Pick.{pick, pick_case, either}
+use Rattle.kit.specs.Pick.{pick, pick_case, either, or_right}
 use Rattle.event.specs.Words.{permitted_gap}
 use Rattle.car.specs.declared.Car.{Car}
 use Rattle.car.specs.declared.Settings.{Settings}
@@ -24,19 +24,15 @@ good_gap_kept : (top : ℕ) (c : Car) → ((positions_of c && numbers_of top c &
 unfolding good_at ranges_of permitted_gap
 good_gap_kept top c = refl
 
-or_none : (b : Bool) → (b || false) ≡ b
+pub or_none : (b : Bool) → (b || false) ≡ b
 or_none true = refl
 or_none false = refl
-
-or_all : (b : Bool) → (b || true) ≡ true
-or_all true = refl
-or_all false = refl
 
 -- so the test from before is the test of the car with 25 for 30
 pub good_offered : (top : ℕ) (c : Car) → good_before top c ≡ good_at top (offered c)
 unfolding good_before permitted_before
 good_offered top c = either (eqb c.gap 30)
-    (λ t. rw (t, or_all (eqb c.gap 20 || eqb c.gap 25), offered_30 c (eqb-true c.gap 30 t)) (sym (good_gap_25 top c)))
+    (λ t. rw (t, or_right (eqb c.gap 20 || eqb c.gap 25) true refl, offered_30 c (eqb-true c.gap 30 t)) (sym (good_gap_25 top c)))
     (λ t. rw (t, or_none (eqb c.gap 20 || eqb c.gap 25), offered_same c (eqb-false c.gap 30 t)) (good_gap_kept top c))
 
 pub offered_settings : (c : Car) → (offered c).settings ≡ c.settings

@@ -19,7 +19,7 @@ use Rattle.record.proofs.RecordLaws.{same_eq, packed_read, held_read, read_accep
 use Rattle.settings.specs.SettingsWord.{settings_kind, mode_of, signs_of, towing_of, start_of}
 use Rattle.settings.proofs.SettingsWordLaws.{started_written}
 use Rattle.longest_gap.specs.ReaderBefore.{good_before, offering}
-use Rattle.longest_gap.proofs.ReaderLaws.{good_offered, offered_settings, offering_pick}
+use Rattle.longest_gap.proofs.ReaderLaws.{or_none, good_offered, offered_settings, offering_pick}
 use Rattle.towing.specs.ReadersBefore.{packed_before, unpacked_before, accepted_before, read_before, bit_14, RecordsAsBefore, made_before, other_before, start_before, bit_3, SettingsAsBefore}
 
 same_answer : {A : Type 0} (a b : A) → gives a ≡ gives b → a ≡ b
@@ -122,10 +122,6 @@ some_record mode signs p =
     (k, towing_record _ _ k refl)
 
 -- ---- a settings word
-or_none : (b : Bool) → (b || false) ≡ b
-or_none true = refl
-or_none false = refl
-
 module _ (w : ℕ) where
   -- any bit from bit 3 up is refused
   bit_other : 2 ^ 3 ≤ body_of w → other_before w ≡ true
