@@ -68,8 +68,8 @@ pub struct RangeRadar {
 
 #[derive(Clone, Copy)]
 pub struct Car {
-    pub cruise: Cruise,
     pub gap: u32, // G, in tenths of a second
+    pub cruise: Cruise,
     pub levers: Levers,
     pub key: u32, // 0 out, 1 in, 2 on
     pub now: u32,
