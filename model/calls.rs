@@ -1,7 +1,8 @@
 //! Cars as their fields, good or not, and calls on them by the model: what the test programs and the outside vectors hold.
 
-use crate::paper::{Car, Lesson, Reading, Sighting};
+use crate::paper::{Car, Lesson, Moves, Reading, Sighting};
 use crate::random::{Field, FIELDS};
+use std::collections::BTreeMap;
 
 /// What a buffer holds before a call.
 pub const UNUSED: u32 = 0xDEAD_BEEF;
@@ -21,6 +22,11 @@ pub struct Fields(pub [u32; 24]);
 /// The field's place in a record.
 fn place(name: &str) -> &'static Field {
     FIELDS.iter().find(|field| field.name == name).expect("a field of the record")
+}
+
+/// The field's number in document 01's order.
+fn number(name: &str) -> Option<usize> {
+    NAMES.iter().position(|&other| other == name)
 }
 
 impl Fields {
@@ -57,8 +63,13 @@ impl Fields {
 
     /// The fields with one changed; none if it has no such name.
     pub fn with(mut self, name: &str, value: u32) -> Option<Fields> {
-        self.0[NAMES.iter().position(|&other| other == name)?] = value;
+        self.0[number(name)?] = value;
         Some(self)
+    }
+
+    /// A field's value.
+    pub fn value(&self, name: &str) -> Option<u32> {
+        Some(self.0[number(name)?])
     }
 
     /// The fields with their names.
@@ -279,6 +290,50 @@ pub fn converted([kind, metres, kmh]: [u32; 3]) -> (u32, u32) {
     match Sighting::new(kind, metres, kmh).ok_or(1).and_then(Sighting::reading) {
         Ok(reading) => (0, reading.map_or(0, Reading::word)),
         Err(refusal) => (refusal, 0),
+    }
+}
+
+// ---------------------------------------------------------------- Moves
+
+/// A record, accepted or not, and the D wanted of its car.
+pub struct Goal {
+    pub record: Vec<u32>,
+    pub wanted: u32,
+}
+
+impl Goal {
+    pub fn run(&self) -> (u32, Moves) {
+        moved(Car::read(&self.record), self.wanted)
+    }
+}
+
+/// The refusal, and the moves of a car to a wanted D. 18: there is no good car.
+pub fn moved(car: Option<Car>, wanted: u32) -> (u32, Moves) {
+    match car.ok_or(18).and_then(|car| car.moves(wanted)) {
+        Ok(moves) => (0, moves),
+        Err(refusal) => (refusal, Moves::default()),
+    }
+}
+
+/// The moves of one car to all it reaches, or why there are none.
+pub struct Reached(Result<BTreeMap<u32, Moves>, u32>);
+
+impl Reached {
+    pub fn of(car: Option<Car>) -> Reached {
+        Reached(car.ok_or(18).and_then(|car| car.reached()))
+    }
+
+    /// The same as `moved`.
+    pub fn moved(&self, wanted: u32) -> (u32, Moves) {
+        match &self.0 {
+            Ok(reached) => reached.get(&wanted).map_or((26, Moves::default()), |&moves| (0, moves)),
+            Err(refusal) => (*refusal, Moves::default()),
+        }
+    }
+
+    /// Every D that is reached.
+    pub fn desired(&self) -> Vec<u32> {
+        self.0.iter().flatten().map(|(&desired, _)| desired).collect()
     }
 }
 

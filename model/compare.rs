@@ -1,9 +1,9 @@
 //! The comparison of the library with the model, case by case. Each case grows from one 64-bit seed, so that it can
 //! be run again alone.
 
-use crate::calls::converted;
+use crate::calls::{converted, Reached};
 use crate::library::{self, GUARD};
-use crate::paper::{Car, Lesson, Passing, Sighting, CLOCK_END};
+use crate::paper::{Car, Lesson, Moves, Passing, Sighting, CLOCK_END, MOST_MOVES};
 use crate::random::{self, Driver, Random, FIELDS};
 use crate::tuned;
 use std::fmt::Write;
@@ -23,9 +23,10 @@ pub enum Kind {
     Mark,
     Sighting,
     See,
+    Moves,
 }
 
-const KINDS: [(Kind, &str); 11] = [
+const KINDS: [(Kind, &str); 12] = [
     (Kind::Fresh, "fresh"),
     (Kind::Walk, "walk"),
     (Kind::Lesson, "lesson"),
@@ -37,10 +38,11 @@ const KINDS: [(Kind, &str); 11] = [
     (Kind::Mark, "mark"),
     (Kind::Sighting, "sighting"),
     (Kind::See, "see"),
+    (Kind::Moves, "moves"),
 ];
 
 /// One round of cases; a run is many rounds.
-const ROUND: [Kind; 16] = [
+const ROUND: [Kind; 17] = [
     Kind::Fresh,
     Kind::Walk,
     Kind::Lesson,
@@ -52,6 +54,7 @@ const ROUND: [Kind; 16] = [
     Kind::Mark,
     Kind::Sighting,
     Kind::See,
+    Kind::Moves,
     Kind::Walk,
     Kind::Lesson,
     Kind::Damaged,
@@ -119,6 +122,7 @@ fn run_case(kind: Kind, seed: u64, tally: &mut Tally, shown: bool) -> Result<(),
         Kind::Mark => mark_case(bench, random),
         Kind::Sighting => sighting_case(bench, random),
         Kind::See => see_case(bench, random),
+        Kind::Moves => moves_case(bench, random),
     }
 }
 
@@ -344,6 +348,26 @@ fn see_case(bench: &mut Bench, random: &mut Random) -> Result<(), Difference> {
         let words = random::damaged_record(random);
         let car = bench.read(&words);
         bench.see(car, &mut Buffer::holding(random, &words), random::sighting(random))?;
+    }
+    Ok(())
+}
+
+/// Moves of cars of every sort, most of them with cruise on and both levers in neutral, and of records that are damaged or
+/// of a wrong length, to a D that is reached or not.
+fn moves_case(bench: &mut Bench, random: &mut Random) -> Result<(), Difference> {
+    for _ in 0..10 {
+        let car = if random.once_in(4) { random::good_car(random) } else { random::neutral_car(random) };
+        let record = match random.below(4) {
+            0 => random::damaged_record(random),
+            _ => random::record(random, &car).to_vec(),
+        };
+        let car = bench.read(&record);
+        let record = Buffer::holding(random, &record);
+        let reached = Reached::of(car);
+        for _ in 0..8 {
+            let wanted = random::wanted(random, &reached.desired());
+            bench.moves(&reached, &record, wanted)?;
+        }
     }
     Ok(())
 }
@@ -982,6 +1006,57 @@ impl Bench<'_> {
         )?;
         Ok(next)
     }
+
+    /// Moves to a wanted D, and those of the model to all that the record's car reaches.
+    fn moves(&mut self, reached: &Reached, record: &Buffer, wanted: u32) -> Result<(), Difference> {
+        let before = self.lent(Call::Moves, Car::read(record.expected()), record);
+        let (refusal, moves) = reached.moved(wanted);
+        let given = library::moves(record.lend(), wanted);
+        self.tally.count(Call::Moves, refusal);
+        self.tally.lists[moves.count] += u64::from(refusal == 0);
+        self.judge(
+            given == moves_given(refusal, moves) && record.is_as_expected(),
+            || format!("cruise_moves wanted {wanted} record {}", input(&before, record.is_null)),
+            || moves_text(moves_given(refusal, moves)),
+            || format!("{} record {}", moves_text(given), found(record)),
+        )?;
+        if refusal == 0 {
+            self.moves_driven(record.expected(), wanted, moves.list())?;
+        }
+        Ok(())
+    }
+
+    /// Of the library alone: it accepts each of these words one after another, and then has the wanted D and the up-down
+    /// lever in neutral.
+    fn moves_driven(&mut self, record: &[u32], wanted: u32, words: &[u32]) -> Result<(), Difference> {
+        let mut after = record.to_vec();
+        let refusals: Vec<u32> = words.iter().map(|&word| library::drive(Some(&mut after), word)).collect();
+        let (refusal, figures) = library::figures(Some(&after));
+        let lever = after[0] >> 5 & 7;
+        self.judge(
+            refusals.iter().all(|&refusal| refusal == 0) && (refusal, figures[3], lever) == (0, wanted, 0),
+            || format!("cruise_drive of {} record {}", hex(words), hex(record)),
+            || format!("0 for each, D {wanted}, L 0"),
+            || format!("{refusals:?}, D {}, L {lever}", figures[3]),
+        )
+    }
+}
+
+/// What the library gives for moves: the refusal, and the cells for the words and for the count.
+type MovesGiven = (u32, [u32; MOST_MOVES + 2], [usize; 3]);
+
+/// What it should give: the words and their count, and the guards.
+pub fn moves_given(refusal: u32, Moves { count, words }: Moves) -> MovesGiven {
+    let mut cells = [GUARD; MOST_MOVES + 2];
+    cells[1..=MOST_MOVES].copy_from_slice(&words);
+    (refusal, cells, [GUARD as usize, count, GUARD as usize])
+}
+
+pub fn moves_text((refusal, cells, count): MovesGiven) -> String {
+    let guard = GUARD as usize;
+    let holds = cells[0] == GUARD && cells[MOST_MOVES + 1] == GUARD && count[0] == guard && count[2] == guard;
+    let guards = complaint(holds, " GUARDS OVERWRITTEN");
+    format!("{refusal} count {} words {}{guards}", count[1], hex(&cells[1..=MOST_MOVES]))
 }
 
 /// A sighting as a call's input: the floats' bits and what they stand for.
@@ -1048,12 +1123,13 @@ enum Call {
     Mark,
     Sighting,
     See,
+    Moves,
 }
 
-const CALL_NAMES: [&str; 10] =
-    ["fresh", "drive", "lesson", "test", "figures", "alike", "copy", "mark", "sighting", "see"];
+const CALL_NAMES: [&str; 11] =
+    ["fresh", "drive", "lesson", "test", "figures", "alike", "copy", "mark", "sighting", "see", "moves"];
 /// The refusals that a function gives, 0 for none; 21 is the programs'.
-const REFUSALS: usize = 25;
+const REFUSALS: usize = 27;
 
 #[derive(Default)]
 struct Tally {
@@ -1078,6 +1154,8 @@ struct Tally {
     /// Sightings converted to a car ahead, to a free road, and faults.
     sightings: [u64; 3],
     faults_driven: u64,
+    /// Lists of moves, by how many words they have.
+    lists: [u64; MOST_MOVES + 1],
 }
 
 impl Tally {
@@ -1130,6 +1208,7 @@ impl Tally {
             "  {cars:>9} sightings of a car, {free_roads} of a free road, {faults} faults; {} faults driven",
             self.faults_driven
         );
+        println!("  {:>9} lists of moves, {}", self.lists.iter().sum::<u64>(), lists_text(&self.lists));
         print!("{:>8}", "answer");
         CALL_NAMES.iter().for_each(|name| print!("{name:>10}"));
         println!("{:>14}", "lesson words");
@@ -1142,4 +1221,10 @@ impl Tally {
         self.old_gaps.iter().for_each(|count| print!("{count:>10}"));
         println!();
     }
+}
+
+/// How many lists have how many words; no list has one.
+pub fn lists_text(lists: &[u64; MOST_MOVES + 1]) -> String {
+    let counts = lists.iter().enumerate().filter(|&(words, count)| words != 1 || *count > 0);
+    counts.map(|(words, count)| format!("{count} of {words} words")).collect::<Vec<_>>().join(", ")
 }

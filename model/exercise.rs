@@ -1,8 +1,9 @@
 //! What the programs give for an exercise file: `lesson` its listing (document 01, "The cab, alike, and the program"),
 //! `clean` its clean file, the settings word and the accepted words (document 02, §2), `mark` the event that passed a
-//! speed mark and the seconds at or above it (§5).
+//! speed mark and the seconds at or above it (§5), `moves` the lever words that reach a wanted speed from its last car
+//! (§13).
 
-use crate::paper::{Car, Passing};
+use crate::paper::{Car, Moves, Passing};
 use std::io::Write;
 
 const HEAD: &str = "n refusal speed desired accel visual acoustic";
@@ -38,6 +39,30 @@ pub fn bytes_of(words: &[u32]) -> Vec<u8> {
     words.iter().flat_map(|word| word.to_le_bytes()).collect()
 }
 
+/// The fresh car of a file's words, and the words behind the settings word.
+pub fn opened(words: &[u32]) -> Option<(Car, &[u32])> {
+    let (&settings, events) = words.split_first()?;
+    Some((Car::start(settings).ok()?, events))
+}
+
+/// The car behind a file's words, if it has a fresh one.
+pub fn last_car(words: &[u32]) -> Option<Car> {
+    let (car, events) = opened(words)?;
+    Some(car.accepted(events).1)
+}
+
+/// After how many of the words cruise is on and both levers are in neutral.
+pub fn neutral_places(mut car: Car, words: &[u32]) -> Vec<usize> {
+    let mut places = Vec::new();
+    for (count, &word) in (1..).zip(words) {
+        car = car.drive(word).unwrap_or(car);
+        if car.has_neutral_cruise() {
+            places.push(count);
+        }
+    }
+    places
+}
+
 impl Given {
     pub fn listing(file: &[u8]) -> Given {
         Given::of(file, Given::put_line)
@@ -49,16 +74,30 @@ impl Given {
 
     /// All of it is due at the file's end.
     pub fn mark(file: &[u8], mark: u32) -> Given {
-        let words = words_of(file);
-        let start = words.first().and_then(|&settings| Car::start(settings).ok());
-        let (text, events) = match start {
-            None => (String::from("refused 17\n"), 0),
-            Some(car) => {
+        Given::at_end(file, |start| match start {
+            None => String::from("refused 17\n"),
+            Some((car, words)) => {
                 let cut = if file.len() % 4 > 0 { "refused 21\n" } else { "" };
-                (passing_lines(car.passing(&words[1..], mark)) + cut, words.len() - 1)
+                passing_lines(car.passing(words, mark)) + cut
             }
-        };
-        Given { output: text.into_bytes(), told: 0, due: vec![0; events + 2] }
+        })
+    }
+
+    /// All of it is due at the file's end.
+    pub fn moves(file: &[u8], wanted: u32) -> Given {
+        Given::at_end(file, |start| match start {
+            None => refused_line(17),
+            Some(_) if file.len() % 4 > 0 => refused_line(21),
+            Some((car, words)) => car.accepted(words).1.moves(wanted).map_or_else(refused_line, move_lines),
+        })
+    }
+
+    /// A text for the fresh car and the words behind the settings word; none where that is missing, cut or refused.
+    fn at_end(file: &[u8], text: impl Fn(Option<(Car, &[u32])>) -> String) -> Given {
+        let words = words_of(file);
+        let start = opened(&words);
+        let events = start.map_or(0, |(_, words)| words.len());
+        Given { output: text(start).into_bytes(), told: 0, due: vec![0; events + 2] }
     }
 
     fn of(file: &[u8], put: fn(&mut Given, Part)) -> Given {
@@ -138,6 +177,21 @@ impl Given {
 fn passing_lines(Passing { event, seconds }: Passing) -> String {
     let first = event.map_or(String::from("never"), |event| format!("event {event}"));
     format!("{first}\nseconds {seconds}\n")
+}
+
+fn move_lines(moves: Moves) -> String {
+    moves.list().iter().map(|word| format!("{word:08X}\n")).collect()
+}
+
+/// The sentence of `moves` for a refusal.
+fn refused_line(refusal: u32) -> String {
+    let reason = match refusal {
+        17 => "the file does not start with a settings word",
+        21 => "the file ends inside a word",
+        25 => "cruise is off or a lever is out of neutral",
+        _ => "no list of at most six lever words gives that speed",
+    };
+    format!("refused {refusal}: {reason}\n")
 }
 
 /// Does a line of a listing show a refusal? The head line, which stands for the settings word, does not.

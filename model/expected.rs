@@ -1,9 +1,9 @@
 //! What each test program has to print for its input, by the model.
 
-use crate::calls::{copied, Call, Fields, Outcome, Pair, Settings, UNUSED};
+use crate::calls::{copied, moved, Call, Fields, Outcome, Pair, Settings, UNUSED};
 use crate::exercise::{bytes_of, words_of, Given};
-use crate::inputs::{any_pairs, MARK};
-use crate::paper::{Car, Event, Figures, Passing, Reading, Sighting};
+use crate::inputs::{any_pairs, MARK, WANTED};
+use crate::paper::{Car, Event, Figures, Moves, Passing, Reading, Sighting};
 use std::io::Write;
 
 /// Lines of numbers, each with a blank behind it.
@@ -134,10 +134,14 @@ pub fn mark(input: &[u8]) -> Result<Vec<u8>, String> {
     Ok(Given::mark(input, MARK).output)
 }
 
+pub fn moves(input: &[u8]) -> Result<Vec<u8>, String> {
+    Ok(Given::moves(input, WANTED).output)
+}
+
 // ---------------------------------------------------------------- calls
 
-/// The input of `calls`, `cruise_calls`, `copies` or `marks` call by call, up to the 0 that ends it; `length` is that
-/// of the first call.
+/// The input of `calls`, `cruise_calls`, `copies`, `marks` or `levers` call by call, up to the 0 that ends it; `length` is
+/// that of the first call.
 fn split(mut words: &[u32], length: impl Fn(&[u32]) -> Option<usize>) -> Option<Vec<&[u32]>> {
     let mut calls = Vec::new();
     while *words.first()? != 0 {
@@ -347,7 +351,7 @@ fn clean_lines(page: &mut Page, file: &[u8]) {
 
 // ---------------------------------------------------------------- marks
 
-/// The greatest record of `marks` in words; the greatest piece of a file and the greatest file in bytes.
+/// The greatest record of `marks` and `levers` in words; the greatest piece of a file and the greatest file in bytes.
 const MOST_LENT: u32 = 13;
 const MOST_CUT: u32 = 4096;
 const MOST_BYTES: u32 = 4112;
@@ -357,13 +361,18 @@ fn split_marks(words: &[u32]) -> Result<Vec<&[u32]>, String> {
     let length = |words: &[u32]| match words[0] {
         1 => marked_length(3 + *words.get(2).filter(|&&lent| lent <= MOST_LENT)? as usize, words),
         2 => marked_length(26, words),
-        3 => match words.get(2..4)? {
-            [1..=MOST_CUT, bytes @ 0..=MOST_BYTES] => Some(4 + bytes.div_ceil(4) as usize),
-            _ => None,
-        },
+        3 => file_length(words),
         _ => None,
     };
     split(words, length).ok_or_else(|| String::from("marks: an input that it does not read, or only in part"))
+}
+
+/// The length of a call with an exercise file, behind the size of its pieces and its own.
+fn file_length(words: &[u32]) -> Option<usize> {
+    match words.get(2..4)? {
+        [1..=MOST_CUT, bytes @ 0..=MOST_BYTES] => Some(4 + bytes.div_ceil(4) as usize),
+        _ => None,
+    }
 }
 
 /// The length of a call whose count of words stands at this place, before the words.
@@ -405,6 +414,37 @@ fn marked(car: Option<Car>, words: &[u32], mark: u32) -> (u32, [u32; 2], Option<
     let (seconds, after) = car.seconds(words);
     let Passing { event, seconds } = Passing::of(&seconds, mark);
     (0, [event.unwrap_or(0), seconds].map(|number| number as u32), Some(after))
+}
+
+// ---------------------------------------------------------------- levers
+
+/// The calls of the input of `levers`.
+fn split_levers(words: &[u32]) -> Result<Vec<&[u32]>, String> {
+    let length = |words: &[u32]| match words[0] {
+        1 => Some(3 + *words.get(2).filter(|&&lent| lent <= MOST_LENT)? as usize),
+        2 => Some(26),
+        3 => file_length(words),
+        _ => None,
+    };
+    split(words, length).ok_or_else(|| String::from("levers: an input that it does not read, or only in part"))
+}
+
+pub fn levers(input: &[u8]) -> Result<Vec<u8>, String> {
+    let mut page = Page::default();
+    for call in split_levers(&words_of(input))? {
+        match call[0] {
+            1 => moves_line(&mut page, Car::read(&call[3..]), call[1]),
+            2 => moves_line(&mut page, car_of(call[1..25].try_into().expect("24 words")).car(), call[25]),
+            // The same, however the file is cut.
+            _ => page.0.extend(Given::moves(&bytes_of(&call[4..])[..call[3] as usize], call[1]).output),
+        }
+    }
+    Ok(page.0)
+}
+
+fn moves_line(page: &mut Page, car: Option<Car>, wanted: u32) {
+    let (refusal, Moves { count, words }) = moved(car, wanted);
+    page.numbers(&[refusal, count as u32]).numbers(&words).end();
 }
 
 // ---------------------------------------------------------------- alikes

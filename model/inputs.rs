@@ -1,8 +1,8 @@
 //! The test programs' inputs from a folder of outside vectors. What the folder does not have is kept from the input as
 //! it stands.
 
-use crate::calls::{run_all, Call, Copy, Fields, Mark, Outcome, Pair, Settings, Start, NAMES, UNUSED};
-use crate::exercise::{bytes_of, words_of};
+use crate::calls::{run_all, Call, Copy, Fields, Goal, Mark, Outcome, Pair, Settings, Start, NAMES, UNUSED};
+use crate::exercise::{bytes_of, last_car, neutral_places, opened, words_of, Given};
 use crate::expected::{split_calls, split_cruise_calls};
 use crate::outside::{listed_passing, Folder, Listed};
 use crate::paper::{Car, Event, Passing, Sighting};
@@ -57,7 +57,7 @@ pub fn clean(folder: &Folder) -> Result<Vec<u8>, String> {
 }
 
 /// A long exercise file of every folder: short ones do not have every sort of event.
-const DRIVEN_IN_THE_CAB: &str = "pages-cut.bin";
+const DRIVEN_IN_THE_CAB: &str = "pages-whole.bin";
 
 /// The words of an exercise file, behind their number and the settings.
 pub fn cab_words(folder: &Folder) -> Result<Vec<u8>, String> {
@@ -735,6 +735,226 @@ fn chosen_mark(events: &[Listed], chosen: Chosen) -> u32 {
     }
 }
 
+// ---------------------------------------------------------------- levers
+
+/// Of how many outside cars the call is asked too, for want of room for more.
+const GOALS_ON_CARS: usize = 100;
+
+/// Cars added by hand: what they are beside the table's car, their D, and what is wanted of them.
+const HAND_GOALS: [(&[(&str, u32)], u32, &[u32]); 24] = [
+    // Lists of two words, of three and of none; 26, also for numbers that are its D in 11, 16 and 31 bits.
+    (ALONE, 570, &[580, 600, 610, 500, 490, 570, 575, 570 + (1 << 11), 570 + (1 << 16), 570 + (1 << 31)]),
+    // Two or four lists are as short, of up to six words; the last two Ds take eight and more.
+    (ALONE, 590, &[600]),
+    (ALONE, 510, &[500]),
+    (ALONE, 500, &[700, 710, 800, 300, 290, 200, 790, 770]),
+    // The floor of both moves down, which is above some D.
+    (ALONE, 1, &[0, 1, 2, 10, 11, 20, 100, 300]),
+    (ALONE, 5, &[10, 15, 20]),
+    (ALONE, 10, &[0, 1, 10]),
+    (ALONE, 60, &[10]),
+    (ALONE, 100, &[10, 90]),
+    // The ceiling.
+    (ALONE, 1900, &[2000, 1990, 2001]),
+    (ALONE, 1985, &[1995, 2000]),
+    (ALONE, 1995, &[2000, 2001, u32::MAX]),
+    (ALONE, 2000, &[0, 1900, 1990, 2000, 2001, 2010, u32::MAX]),
+    (ALONE, 1000, &[1000, 1001, 1100]),
+    (TOWING, 900, &[1000, 990, 1001, 1100]),
+    (TOWING, 995, &[1000, 1005, u32::MAX]),
+    (TOWING, 1000, &[0, 900, 990, 1000, 1001, 1010, 1100, 2000, u32::MAX]),
+    (TOWING, 1, &[0, 1, 10]),
+    // Cruise off, or a lever out.
+    (&[("C", 0)], 500, WANTED_THERE),
+    (&[("L", 1), ("B", 500)], 500, WANTED_THERE),
+    (&[("L", 4), ("C", 0)], 500, WANTED_THERE),
+    (&[("M", 1)], 500, WANTED_THERE),
+    (&[("M", 2), ("C", 0)], 500, WANTED_THERE),
+    (&[("towing", 1), ("M", 1)], 500, WANTED_THERE),
+];
+
+const ALONE: &[(&str, u32)] = &[];
+const TOWING: &[(&str, u32)] = &[("towing", 1)];
+/// What a car has, what a list would give, and what none would.
+const WANTED_THERE: &[u32] = &[500, 510, u32::MAX];
+
+/// Cars that are not good, each the table's with a few fields changed.
+const BAD_CARS: [&[(&str, u32)]; 14] = [
+    &[("D", 0)],
+    &[("D", 2001)],
+    &[("D", u32::MAX)],
+    &[("towing", 1), ("D", 1001)],
+    &[("towing", 1), ("E", 1200)],
+    &[("L", 5)],
+    &[("M", 3)],
+    &[("B", 500)],
+    &[("L", 1)],
+    &[("key", 1)],
+    &[("b", 1)],
+    &[("G", 30)],
+    &[("Q", 1)],
+    &[("mode", 0)],
+];
+
+/// Where an exercise file ends.
+#[derive(Clone, Copy)]
+enum End {
+    /// Where it does, or where there is no more room.
+    Whole,
+    /// Behind the first event after which cruise is on and both levers are in neutral, or so many bytes further on.
+    First(usize),
+    /// Behind the last one for which there is room.
+    Last,
+}
+
+/// The D wanted of an exercise file's last car.
+#[derive(Clone, Copy)]
+enum Aim {
+    /// Its own.
+    Held,
+    /// The least, or the greatest, that a list of so many words gives.
+    Least(usize),
+    Greatest(usize),
+    /// One above the ceiling.
+    Above,
+    /// Any, where there is no car.
+    Any,
+}
+
+/// The exercise files, each with its end, the size of the pieces it is cut into and the D wanted.
+const LEVER_FILES: [(&str, End, u32, Aim); 30] = [
+    ("settings-alone", End::Whole, 3, Aim::Held),
+    ("settings-alone", End::Whole, 4, Aim::Above),
+    ("settings-bit-3", End::Whole, 4, Aim::Held),
+    ("nothing", End::Whole, 1, Aim::Any),
+    ("cut-first", End::Whole, 2, Aim::Any),
+    ("cut-later", End::Whole, 3, Aim::Held),
+    ("bad-settings-0", End::Whole, 1, Aim::Any),
+    ("bad-settings-1", End::Whole, 3, Aim::Any),
+    ("bad-settings-2", End::Whole, 4, Aim::Any),
+    ("bad-settings-3", End::Whole, 5, Aim::Any),
+    ("bad-settings-4", End::Whole, 7, Aim::Any),
+    ("example", End::Whole, 1, Aim::Held),
+    ("example", End::Whole, 4096, Aim::Above),
+    ("walk-1", End::First(0), 1, Aim::Greatest(3)),
+    ("walk-1", End::First(0), 2, Aim::Least(2)),
+    ("walk-1", End::First(0), 3, Aim::Greatest(6)),
+    ("walk-1", End::First(0), 4, Aim::Least(6)),
+    ("walk-1", End::First(0), 5, Aim::Held),
+    ("walk-1", End::First(0), 7, Aim::Above),
+    ("walk-1", End::First(1), 1, Aim::Held),
+    ("walk-1", End::First(2), 5, Aim::Least(2)),
+    ("walk-1", End::First(3), 4096, Aim::Above),
+    ("walk-2", End::First(0), 5, Aim::Greatest(4)),
+    ("walk-2", End::First(0), 7, Aim::Least(5)),
+    ("walk-6", End::First(0), 4096, Aim::Greatest(5)),
+    ("walk-1", End::Whole, 2, Aim::Held),
+    ("random-words", End::Whole, 7, Aim::Held),
+    ("walk-3", End::Last, 4095, Aim::Least(3)),
+    ("walk-4", End::Last, 3, Aim::Least(4)),
+    ("pages-cycle", End::Last, 4096, Aim::Greatest(2)),
+];
+
+/// The outside records and what is wanted of them, by the library's function and by the call on their cars; records that
+/// are too short or too long; cars added by hand; cars that are not good; the gap 30; exercise files.
+pub fn levers(folder: &Folder) -> Result<Vec<u8>, String> {
+    let files = LEVER_FILES.map(|(name, ..)| format!("{name}.bin"));
+    if !["moves.in", "calls.in"].map(String::from).into_iter().chain(files).all(|name| folder.has(&name)) {
+        return stdin("levers");
+    }
+    let goals = folder.goals()?.unwrap_or_default();
+    let mut words: Vec<u32> = goals.iter().flat_map(|goal| lent_goal(&goal.record, goal.wanted)).collect();
+    for Goal { record, wanted } in goals.iter().take(GOALS_ON_CARS) {
+        words.extend(Fields::of_record(record).map_or(Vec::new(), |fields| car_goal(fields, *wanted)));
+    }
+    words.extend(wrongly_lent_goals(&goals));
+    for (changes, desired, wanted) in HAND_GOALS {
+        let fields = changed(changed(TABLE_CAR, &[("D", desired)])?, changes)?;
+        words.extend(wanted.iter().flat_map(|&wanted| both_goals(fields, wanted)));
+    }
+    let bad_cars: Result<Vec<Fields>, String> = BAD_CARS.iter().map(|changes| changed(TABLE_CAR, changes)).collect();
+    for fields in bad_cars?.into_iter().chain(bad_cars_of(&folder.calls("calls")?.unwrap_or_default())) {
+        let wanted = fields.value("D").ok_or("no field D")?;
+        words.extend([wanted, u32::MAX].into_iter().flat_map(|wanted| both_goals(fields, wanted)));
+    }
+    for gap in [25, 30] {
+        let fields = old_gap_car(gap)?;
+        words.extend([600, 610, 605].into_iter().flat_map(|wanted| both_goals(fields, wanted)));
+    }
+    for (name, end, cut, aim) in LEVER_FILES {
+        words.extend(lever_file(folder, name, end, cut, aim)?);
+    }
+    words.push(0);
+    Ok(bytes_of(&words))
+}
+
+/// By the library's function.
+fn lent_goal(record: &[u32], wanted: u32) -> Vec<u32> {
+    [&[1, wanted, record.len() as u32], record].concat()
+}
+
+/// By the call on a car, good or not.
+fn car_goal(fields: Fields, wanted: u32) -> Vec<u32> {
+    [&[2], &fields.0[..], &[wanted]].concat()
+}
+
+/// By both, where a record shows the car.
+fn both_goals(fields: Fields, wanted: u32) -> Vec<u32> {
+    let lent = fields.record().map_or(Vec::new(), |record| lent_goal(&record, wanted));
+    [lent, car_goal(fields, wanted)].concat()
+}
+
+/// The first goal that a list of words reaches, with 0, 11 and 13 words lent.
+fn wrongly_lent_goals(goals: &[Goal]) -> Vec<u32> {
+    let Some(Goal { record, wanted }) = goals.iter().find(|goal| goal.run().1.count > 0) else {
+        return Vec::new();
+    };
+    let record: Vec<u32> = record.iter().copied().chain([UNUSED]).collect();
+    [0, 11, 13].iter().flat_map(|&lent| lent_goal(&record[..lent], *wanted)).collect()
+}
+
+/// The cars of the calls that are not good, each once.
+fn bad_cars_of(calls: &[Call]) -> Vec<Fields> {
+    let mut bad: Vec<Fields> = Vec::new();
+    for fields in run_all(calls).into_iter().filter_map(|outcome| outcome?.car) {
+        if fields.car().is_none() && !bad.contains(&fields) {
+            bad.push(fields);
+        }
+    }
+    bad
+}
+
+fn lever_file(folder: &Folder, name: &str, end: End, cut: u32, aim: Aim) -> Result<Vec<u32>, String> {
+    let mut file = folder.bytes(&format!("{name}.bin"))?.unwrap_or_default();
+    file.truncate(FILE_BYTES);
+    let neutral = opened(&words_of(&file)).map_or(Vec::new(), |(car, events)| neutral_places(car, events));
+    let behind = |events: &usize| 4 + 4 * events;
+    let length = match end {
+        End::Whole => Some(file.len()),
+        End::First(more) => neutral.first().map(|events| behind(events) + more),
+        End::Last => neutral.last().map(behind),
+    };
+    file.truncate(length.ok_or_else(|| format!("{name}: no car with cruise on and both levers in neutral"))?);
+    let wanted = aimed(last_car(&words_of(&file)), aim);
+    let wanted = wanted.ok_or_else(|| format!("{name}: a last car that has no such D"))?;
+    Ok([&[3, wanted], &cut_file(file, cut)[..]].concat())
+}
+
+/// The D wanted of a last car; none if it has no such D.
+fn aimed(car: Option<Car>, aim: Aim) -> Option<u32> {
+    let by_words = |count| {
+        let reached = car?.reached().ok()?.into_iter();
+        Some(reached.filter(move |(_, moves)| moves.count == count).map(|(desired, _)| desired))
+    };
+    match aim {
+        Aim::Held => Some(car?.desired as u32),
+        Aim::Least(count) => by_words(count)?.min(),
+        Aim::Greatest(count) => by_words(count)?.max(),
+        Aim::Above => Some(car?.ceiling() as u32 + 1),
+        Aim::Any => Some(WANTED),
+    }
+}
+
 // ---------------------------------------------------------------- alikes
 
 /// The words that are driven on each outside pair of alike cars: both ticks, of which 15 refuses one but for a test's
@@ -911,4 +1131,22 @@ pub fn mark(folder: &Folder) -> Result<Vec<u8>, String> {
 fn not_taken(events: &[Listed]) -> Vec<u32> {
     let refused = events.iter().filter(|event| Event::is_unread(event.refusal)).map(|event| event.word);
     refused.cycle().take(NOT_TAKEN).collect()
+}
+
+// ---------------------------------------------------------------- moves
+
+/// The D that the program is asked for.
+pub const WANTED: u32 = 610;
+/// The exercise file that is its input, whose last car has the D 570, and what it prints: both worked out by hand.
+const LEVER: &str = "crates/vectors/data/lever.bin";
+const LEVER_MOVES: &str = "20000002\n20000001\n20000000\n";
+
+pub fn moves(_: &Folder) -> Result<Vec<u8>, String> {
+    let file = read(LEVER)?;
+    let model = Given::moves(&file, WANTED).output;
+    if model != LEVER_MOVES.as_bytes() {
+        let model = String::from_utf8_lossy(&model);
+        return Err(format!("{LEVER}: the model gives {model:?}, and not {LEVER_MOVES:?}"));
+    }
+    Ok(file)
 }

@@ -1,6 +1,7 @@
 //! The library under test: cruise.h and safe wrappers. A buffer is a slice; none is a null pointer with length 0.
 //! Each number that the library writes stands between two guards, and comes back with them.
 
+use crate::paper::MOST_MOVES;
 use std::ptr::{null, null_mut};
 
 mod c {
@@ -48,6 +49,7 @@ mod c {
         ) -> u32;
         pub fn cruise_sighting(kind: u32, metres: f32, kmh: f32, word: *mut u32) -> u32;
         pub fn cruise_see(record: *mut u32, length: usize, kind: u32, metres: f32, kmh: f32) -> u32;
+        pub fn cruise_moves(record: *const u32, length: usize, wanted: u32, moves: *mut u32, count: *mut usize) -> u32;
     }
 }
 
@@ -147,4 +149,14 @@ pub fn sighting(kind: u32, metres: u32, kmh: u32) -> (u32, [u32; 3]) {
 pub fn see(record: Option<&mut [u32]>, kind: u32, metres: u32, kmh: u32) -> u32 {
     let (record, length) = lent_mut(record);
     unsafe { c::cruise_see(record, length, kind, f32::from_bits(metres), f32::from_bits(kmh)) }
+}
+
+/// The refusal, and: guard, the moves, guard; guard, their count, guard.
+pub fn moves(record: Option<&[u32]>, wanted: u32) -> (u32, [u32; MOST_MOVES + 2], [usize; 3]) {
+    let (record, length) = lent(record);
+    let mut out = [GUARD; MOST_MOVES + 2];
+    let mut count = [GUARD as usize; 3];
+    let refusal =
+        unsafe { c::cruise_moves(record, length, wanted, out.as_mut_ptr().add(1), count.as_mut_ptr().add(1)) };
+    (refusal, out, count)
 }

@@ -1,8 +1,8 @@
 //! A folder of outside vectors: its inputs, and its answers held to the model's.
 
-use crate::calls::{run_all, Call, Copy, Fields, Mark, Outcome, Pair, Settings, Start};
+use crate::calls::{run_all, Call, Copy, Fields, Goal, Mark, Outcome, Pair, Settings, Start};
 use crate::exercise::{bytes_of, is_refused, words_of, Given};
-use crate::paper::{Car, Event, Passing, Sighting};
+use crate::paper::{Car, Event, Moves, Passing, Sighting};
 use crate::parts::Parts;
 use std::collections::BTreeSet;
 use std::fs;
@@ -66,6 +66,11 @@ impl Folder {
     /// The sightings of sighting.in.
     pub fn sightings(&self) -> Result<Option<Vec<Sighting>>, String> {
         self.lines("sighting.in", read_sighting)
+    }
+
+    /// The records and wanted speeds of moves.in.
+    pub fn goals(&self) -> Result<Option<Vec<Goal>>, String> {
+        self.lines("moves.in", read_goal)
     }
 
     /// The pairs of records of alike.in.
@@ -170,6 +175,12 @@ fn read_mark(line: &str) -> Option<Mark> {
     Some(Mark { mark, start, words: hex_words(words)? })
 }
 
+/// The record and the wanted D.
+fn read_goal(line: &str) -> Option<Goal> {
+    let (record, wanted) = line.rsplit_once(' ')?;
+    Some(Goal { record: hex_words(record)?, wanted: wanted.parse().ok()? })
+}
+
 fn read_pair(line: &str) -> Option<Pair> {
     hex_words(line)?.try_into().ok().map(Pair)
 }
@@ -219,6 +230,7 @@ impl Folder {
             + self.hold_copies()?
             + self.hold_marks()?
             + self.hold_sightings()?
+            + self.hold_moves()?
             + self.hold_pairs()?
             + self.hold_written()?;
         for name in self.names.iter().filter_map(|name| name.strip_suffix(".bin")) {
@@ -272,6 +284,14 @@ impl Folder {
         };
         let model: Vec<String> = sightings.iter().map(|&sighting| sighting_answer(sighting)).collect();
         hold_lines("sighting.txt", &self.answers("sighting.txt")?, &model)
+    }
+
+    fn hold_moves(&self) -> Result<usize, String> {
+        let Some(goals) = self.goals()? else {
+            return Ok(0);
+        };
+        let model: Vec<String> = goals.iter().map(moves_answer).collect();
+        hold_lines("moves.txt", &self.answers("moves.txt")?, &model)
     }
 
     fn hold_pairs(&self) -> Result<usize, String> {
@@ -398,6 +418,12 @@ fn sighting_answer(sighting: Sighting) -> String {
         Ok(None) => String::from("no event"),
         Err(refusal) => format!("refused {refusal}"),
     }
+}
+
+/// The answer to a wanted D as a folder gives it.
+fn moves_answer(goal: &Goal) -> String {
+    let (refusal, Moves { count, words }) = goal.run();
+    format!("refusal {refusal} count {count} words {}", hex(&words))
 }
 
 /// A pair's answer as a folder gives it.

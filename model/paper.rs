@@ -1,6 +1,8 @@
 //! The plain model: document 01 in its own order, with its check numbers and rule letters as labels, as the requests of
 //! document 02 have changed it so far.
 
+use std::collections::BTreeMap;
+
 /// The end of the clock.
 pub const CLOCK_END: i32 = 86_400;
 /// Seconds between radar tests.
@@ -1084,6 +1086,80 @@ impl Car {
             Some(reading) => self.drive(reading.word()).map(Some),
             None => Ok(None),
         }
+    }
+}
+
+// ---------------------------------------------------------------- Fewest moves of the lever
+
+/// The most words that a list of moves has.
+pub const MOST_MOVES: usize = 6;
+
+/// The up-down lever words in rising order.
+const LEVER_WORDS: [u32; 5] = [0x2000_0000, 0x2000_0001, 0x2000_0002, 0x2000_0003, 0x2000_0004];
+
+/// A list of moves: its words, 0 past them, and their count. A refusal gives count 0 and six zeros.
+#[derive(Clone, Copy, PartialEq, Eq, Debug, Default)]
+pub struct Moves {
+    pub count: usize,
+    pub words: [u32; MOST_MOVES],
+}
+
+impl Moves {
+    pub fn list(&self) -> &[u32] {
+        &self.words[..self.count]
+    }
+
+    fn and(mut self, word: u32) -> Moves {
+        self.words[self.count] = word;
+        self.count += 1;
+        self
+    }
+}
+
+impl Car {
+    /// Of all lists of at most six up-down lever words, all accepted, that end in neutral with the wanted D, one with the
+    /// fewest words, among equals the one whose words come first. 25: cruise off or a lever out of neutral. 26: there is
+    /// no such list.
+    pub fn moves(&self, wanted: u32) -> Result<Moves, u32> {
+        self.endings()?.find(|&(desired, _)| desired == wanted).map(|(_, moves)| moves).ok_or(26)
+    }
+
+    /// The same for every wanted D that is not refused with 26.
+    pub fn reached(&self) -> Result<BTreeMap<u32, Moves>, u32> {
+        let mut reached = BTreeMap::new();
+        for (desired, moves) in self.endings()? {
+            reached.entry(desired).or_insert(moves);
+        }
+        Ok(reached)
+    }
+
+    /// The lists that end in neutral, with the D of each; the shorter ones first, those of one length in rising order.
+    fn endings(&self) -> Result<impl Iterator<Item = (u32, Moves)> + '_, u32> {
+        if !self.has_neutral_cruise() {
+            return Err(25);
+        }
+        let lists = (0..=MOST_MOVES).flat_map(|count| self.lever_lists(count));
+        let ending = lists.filter(|(_, car)| !car.up_down.is_out());
+        Ok(ending.map(|(moves, car)| (car.desired as u32, moves)))
+    }
+
+    /// The lists of so many up-down lever words, all accepted, in rising order of their words from the first on, and the
+    /// car behind each.
+    fn lever_lists(&self, count: usize) -> Vec<(Moves, Car)> {
+        if count == 0 {
+            return vec![(Moves::default(), *self)];
+        }
+        let mut lists = Vec::new();
+        for (moves, car) in self.lever_lists(count - 1) {
+            let accepted = LEVER_WORDS.into_iter().filter_map(|word| car.drive(word).ok().map(|next| (word, next)));
+            lists.extend(accepted.map(|(word, next)| (moves.and(word), next)));
+        }
+        lists
+    }
+
+    /// Is cruise on, and are both levers in neutral?
+    pub fn has_neutral_cruise(&self) -> bool {
+        self.cruise && !self.up_down.is_out() && !self.fore_back.is_out()
     }
 }
 

@@ -1,8 +1,9 @@
-//! The programs `lesson`, `clean` and `mark` against the model: what they give for an exercise file by each way in,
-//! what they tell of failures, their help and their usage. Each case is tried on every program that it is for, and
+//! The programs `lesson`, `clean`, `mark` and `moves` against the model: what they give for an exercise file by each way
+//! in, what they tell of failures, their help and their usage. Each case is tried on every program that it is for, and
 //! grows from one 64-bit seed, so that it can be run again alone.
 
-use crate::exercise::{bytes_of, is_refused, words_of, Given};
+use crate::calls::Reached;
+use crate::exercise::{bytes_of, is_refused, last_car, words_of, Given};
 use crate::paper::Car;
 use crate::parts::Parts;
 use crate::random::{self, Random};
@@ -30,6 +31,8 @@ enum Program {
     Clean,
     /// Takes a speed mark before the file's name, and prints a few lines at the file's end.
     Mark,
+    /// Takes a wanted speed before the file's name, and prints lever words at the file's end.
+    Moves,
 }
 
 impl Program {
@@ -38,6 +41,7 @@ impl Program {
             Program::Lesson => "lesson",
             Program::Clean => "clean",
             Program::Mark => "mark",
+            Program::Moves => "moves",
         }
     }
 
@@ -46,6 +50,7 @@ impl Program {
         match self {
             Program::Lesson | Program::Clean => "[FILE]",
             Program::Mark => "MARK [FILE]",
+            Program::Moves => "WANTED [FILE]",
         }
     }
 
@@ -55,12 +60,12 @@ impl Program {
 
     /// Does it print while the file still comes, and the more the longer it is?
     fn is_live(self) -> bool {
-        !matches!(self, Program::Mark)
+        !matches!(self, Program::Mark | Program::Moves)
     }
 
     fn parts(self) -> Parts {
         match self {
-            Program::Lesson | Program::Mark => Parts::Lines,
+            Program::Lesson | Program::Mark | Program::Moves => Parts::Lines,
             Program::Clean => Parts::Words,
         }
     }
@@ -78,13 +83,14 @@ pub enum Kind {
     Live,
     Clean,
     Edges,
+    Neutral,
 }
 
-const ALL_PROGRAMS: &[Program] = &[Program::Lesson, Program::Clean, Program::Mark];
+const ALL_PROGRAMS: &[Program] = &[Program::Lesson, Program::Clean, Program::Mark, Program::Moves];
 const LIVE_PROGRAMS: &[Program] = &[Program::Lesson, Program::Clean];
 
 /// Each kind's name, how many cases of it are a run, and the programs it is for.
-const KINDS: [(Kind, &str, u32, &[Program]); 8] = [
+const KINDS: [(Kind, &str, u32, &[Program]); 9] = [
     (Kind::Short, "short", 5, ALL_PROGRAMS),
     (Kind::Failing, "failing", 10, ALL_PROGRAMS),
     (Kind::Pages, "pages", 2, ALL_PROGRAMS),
@@ -93,6 +99,7 @@ const KINDS: [(Kind, &str, u32, &[Program]); 8] = [
     (Kind::Live, "live", 300, LIVE_PROGRAMS),
     (Kind::Clean, "clean", 200, LIVE_PROGRAMS),
     (Kind::Edges, "edges", 200, &[Program::Mark]),
+    (Kind::Neutral, "neutral", 500, &[Program::Moves]),
 ];
 
 impl Kind {
@@ -152,6 +159,7 @@ fn run_case(kind: Kind, seed: u64, tally: &mut Tally, shown: bool) -> Result<(),
         Kind::Live => live_case,
         Kind::Clean => clean_case,
         Kind::Edges => edges_case,
+        Kind::Neutral => neutral_case,
     };
     for &program in kind.programs() {
         case(&mut Bench { program, tally, shown }, &mut Random::new(seed))?;
@@ -234,6 +242,15 @@ fn edges_case(bench: &mut Bench, random: &mut Random) -> Result<(), Difference> 
     bench.take_pieces(random, &exercise)
 }
 
+/// A file whose last car has cruise on and both levers in neutral, of any length or one near a whole page; now and then
+/// it ends inside one more word.
+fn neutral_case(bench: &mut Bench, random: &mut Random) -> Result<(), Difference> {
+    let file = neutral_file(random);
+    let exercise = bench.exercise(random, file);
+    bench.take_file(random, &exercise)?;
+    bench.take_pieces(random, &exercise)
+}
+
 /// Reads and writes that fail, help and usage.
 fn failing_case(bench: &mut Bench, random: &mut Random) -> Result<(), Difference> {
     let short = bench.any_exercise(random, 4000);
@@ -305,7 +322,7 @@ fn help(bench: &mut Bench) -> Result<(), Difference> {
 fn usage(bench: &mut Bench) -> Result<(), Difference> {
     let uses = match bench.program {
         Program::Lesson | Program::Clean => file_misuses(),
-        Program::Mark => mark_misuses(),
+        Program::Mark | Program::Moves => number_misuses(),
     };
     let (name, arguments) = (bench.program.name(), bench.program.arguments());
     let told = format!("usage: {name} {arguments} ({name} --help says more)\n").into_bytes();
@@ -334,9 +351,9 @@ fn file_misuses() -> Vec<Vec<&'static [u8]>> {
 }
 
 /// None, a first one that is no number or too great, with a file and without, or more than two.
-fn mark_misuses() -> Vec<Vec<&'static [u8]>> {
+fn number_misuses() -> Vec<Vec<&'static [u8]>> {
     let file = FILE.as_bytes();
-    let no_marks: [&[u8]; 22] = [
+    let no_numbers: [&[u8]; 22] = [
         b"",
         b"-",
         b"--",
@@ -361,7 +378,7 @@ fn mark_misuses() -> Vec<Vec<&'static [u8]>> {
         &[b'9'; 100],
     ];
     let mut uses: Vec<Vec<&[u8]>> = vec![vec![]];
-    uses.extend(no_marks.iter().flat_map(|&mark| [vec![mark], vec![mark, file]]));
+    uses.extend(no_numbers.iter().flat_map(|&number| [vec![number], vec![number, file]]));
     uses.extend([vec![b"--help", file], vec![file], vec![file, b"500"]]);
     uses.extend([vec![b"500", file, file], vec![b"500", file, b""], vec![b"500", b"none", b"none", b"none"]]);
     uses
@@ -369,17 +386,18 @@ fn mark_misuses() -> Vec<Vec<&'static [u8]>> {
 
 // ---------------------------------------------------------------- Exercise files
 
-/// An exercise file, and what the program under test gives for it, of `mark` for a speed mark, here as its argument.
+/// An exercise file, and what the program under test gives for it, of `mark` for a speed mark and of `moves` for a wanted
+/// speed, here as its argument.
 struct Exercise {
     file: Vec<u8>,
     given: Given,
-    mark: Option<String>,
+    number: Option<String>,
 }
 
 impl Exercise {
     /// The program's arguments for the file by this name, or by standard input.
     fn arguments<'a>(&'a self, name: Option<&'a [u8]>) -> Vec<&'a [u8]> {
-        self.mark.iter().map(|mark| mark.as_bytes()).chain(name).collect()
+        self.number.iter().map(|number| number.as_bytes()).chain(name).collect()
     }
 
     /// Has it a first word that is refused? Then the program reads no more.
@@ -406,6 +424,11 @@ fn some_mark(random: &mut Random, file: &[u8]) -> u32 {
     let car = words.first().and_then(|&settings| Car::start(settings).ok());
     let seconds = car.map_or(Vec::new(), |car| car.seconds(&words[1..]).0);
     random::mark(random, &seconds)
+}
+
+/// A wanted speed for a file.
+fn some_wanted(random: &mut Random, file: &[u8]) -> u32 {
+    random::wanted(random, &Reached::of(last_car(&words_of(file))).desired())
 }
 
 /// Any length up to `widest`, or one near a whole page.
@@ -437,7 +460,19 @@ fn file_from(random: &mut Random, settings: u32, length: usize) -> Vec<u8> {
     bytes
 }
 
-/// A file of accepted words alone, for which every program gives more than a pipe or a socket holds.
+fn neutral_file(random: &mut Random) -> Vec<u8> {
+    let settings = random::good_settings(random);
+    let car = Car::start(settings).expect("good settings");
+    let widest = random.pick(&[400, 4000, 40_000]);
+    let count = some_length(random, widest) / 4;
+    let mut bytes = bytes_of(&[&[settings], &random::neutral_walk(random, car, count)[..]].concat());
+    if random.once_in(8) {
+        bytes.extend((0..random.between(1, 3)).map(|_| random.below(256) as u8));
+    }
+    bytes
+}
+
+/// A file of accepted words alone, for which `lesson` and `clean` give more than a pipe or a socket holds.
 fn long_file(random: &mut Random) -> Vec<u8> {
     let settings = random::good_settings(random);
     let car = Car::start(settings).expect("good settings");
@@ -656,6 +691,11 @@ struct Bench<'a> {
     shown: bool,
 }
 
+/// A number as an argument, now and then behind zeros.
+fn typed(random: &mut Random, number: u32) -> String {
+    "0".repeat(random.pick(&[0, 0, 0, 1, 3, 30])) + &number.to_string()
+}
+
 /// A reader that takes all.
 const ALL: u64 = u64::MAX;
 
@@ -687,12 +727,15 @@ impl Bench<'_> {
 
     fn exercise(&self, random: &mut Random, file: Vec<u8>) -> Exercise {
         match self.program {
-            Program::Lesson => Exercise { given: Given::listing(&file), mark: None, file },
-            Program::Clean => Exercise { given: Given::clean(&file), mark: None, file },
+            Program::Lesson => Exercise { given: Given::listing(&file), number: None, file },
+            Program::Clean => Exercise { given: Given::clean(&file), number: None, file },
             Program::Mark => {
                 let mark = some_mark(random, &file);
-                let zeros = "0".repeat(random.pick(&[0, 0, 0, 1, 3, 30]));
-                Exercise { given: Given::mark(&file, mark), mark: Some(format!("{zeros}{mark}")), file }
+                Exercise { given: Given::mark(&file, mark), number: Some(typed(random, mark)), file }
+            }
+            Program::Moves => {
+                let wanted = some_wanted(random, &file);
+                Exercise { given: Given::moves(&file, wanted), number: Some(typed(random, wanted)), file }
             }
         }
     }
@@ -723,6 +766,9 @@ impl Bench<'_> {
     /// By standard input, and by the file's name, now and then a long one.
     fn take_file(&mut self, random: &mut Random, exercise: &Exercise) -> Result<(), Difference> {
         keep(&exercise.file);
+        if matches!(self.program, Program::Moves) {
+            self.tally.count_moves(&exercise.given.output);
+        }
         self.tally.events += 2 * exercise.given.events() as u64;
         self.run(self.call(&exercise.arguments(None)).input(FILE), exercise.taken())?;
         let detour = if random.once_in(20) { random.below(1900) } else { 0 };
@@ -848,13 +894,26 @@ struct Tally {
     pieces: u64,
     /// Lines on standard error.
     lines_told: u64,
+    /// Files for which `moves` gives no words, some words, and a refusal.
+    moves: [u64; 3],
 }
 
 impl Tally {
+    fn count_moves(&mut self, output: &[u8]) {
+        let sort = match output.first() {
+            None => 0,
+            Some(b'r') => 2,
+            Some(_) => 1,
+        };
+        self.moves[sort] += 1;
+    }
+
     fn print(&self, seed: u64) {
         println!(
             "no difference in {} runs of the programs, seed {seed}: {} events, {} pieces awaited, {} lines told",
             self.runs, self.events, self.pieces, self.lines_told
         );
+        let [empty, lists, refusals] = self.moves;
+        println!("  files for moves: {lists} with a list, {empty} with an empty one, {refusals} refused");
     }
 }

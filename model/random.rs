@@ -1,5 +1,7 @@
-//! Chance from a seed: plain numbers, event words, drives that get somewhere, sightings, cars and damaged records.
+//! Chance from a seed: plain numbers, event words, drives that get somewhere, sightings, wanted speeds, cars and damaged
+//! records.
 
+use crate::exercise::neutral_places;
 use crate::paper::{
     held_desired, Car, ForeBack, Key, Mode, Second, UpDown, CLOCK_END, LONGEST_GAP, NOT_READY, OLD_GAP, TEST_PERIOD,
 };
@@ -375,6 +377,37 @@ fn any_float(random: &mut Random) -> u32 {
     }
 }
 
+// ---------------------------------------------------------------- Moves
+
+/// A wanted D: one of those that are reached, or one beside it, an edge, or any.
+pub fn wanted(random: &mut Random, reached: &[u32]) -> u32 {
+    match random.below(8) {
+        0 => random.pick(&[0, 1, 10, 1000, 1001, 2000, 2001, u32::MAX]),
+        1 => random.below(2003),
+        2 => random.word(),
+        _ if reached.is_empty() => random.below(2003),
+        3 => (random.pick(reached) + random.below(3)).saturating_sub(1),
+        _ => random.pick(reached),
+    }
+}
+
+/// Words from a fresh car to one with cruise on and both levers in neutral: a walk, and before it as many words that leave
+/// the car standing as `count` has room for.
+pub fn neutral_walk(random: &mut Random, fresh: Car, count: usize) -> Vec<u32> {
+    let walk = loop {
+        let mut driver = Driver::new(random);
+        let mut words = lesson_words(random, &mut driver, fresh, 300);
+        let places = neutral_places(fresh, &words);
+        if !places.is_empty() {
+            words.truncate(random.pick(&places));
+            break words;
+        }
+    };
+    let mut words: Vec<u32> = (walk.len()..count).map(|_| standing_word(random)).collect();
+    words.extend(walk);
+    words
+}
+
 // ---------------------------------------------------------------- Cars
 
 pub fn fresh_car(random: &mut Random) -> Car {
@@ -493,6 +526,16 @@ pub fn following_car(random: &mut Random) -> Car {
         let car = made_car(random);
         let neutral = !car.up_down.is_out() && car.fore_back == ForeBack::Neutral;
         if car.mode == Mode::Adaptive && car.is_ahead() && neutral && car.now < 1000 {
+            return car;
+        }
+    }
+}
+
+/// A good car with cruise on and both levers in neutral.
+pub fn neutral_car(random: &mut Random) -> Car {
+    loop {
+        let car = good_car(random);
+        if car.has_neutral_cruise() {
             return car;
         }
     }

@@ -1,8 +1,8 @@
 //! Measurements: the library, the plain model and the tuned one over the same words, in turn, in one run.
 
-use crate::calls::converted;
+use crate::calls::{converted, moved};
 use crate::library;
-use crate::paper::{Car, Passing, Second, Sighting};
+use crate::paper::{Car, Key, Moves, Passing, Second, Sighting};
 use crate::random::{self, Driver, Random};
 use crate::tuned;
 use std::hint::black_box;
@@ -106,6 +106,10 @@ pub fn run(start: Instant) {
     let [mixed, accepted, ticks, random] = workloads;
     let copied = [mixed, accepted, workload("ticks", fresh_ticks), workload("random words", fresh_random)];
     print_copies(&copied);
+    println!("\nmoves of the lever, ns per call, median of {RUNS} runs in turn: cruise_moves, and the model, which tries list by list");
+    let goals = goal_rows();
+    print_pairs("moves", &goals, &[("library", library_moves), ("model", model_moves)]);
+    print_slowest(&goals);
     println!("\nmarks, ns per word, median of {RUNS} runs in turn: cruise_mark beside cruise_lesson on the same words");
     println!("up to the find: the words as far as the event that passes the mark, and no more");
     print_marks(&mark_rows(&copied, &ticks, &random));
@@ -243,6 +247,36 @@ fn half_way_walk(random: &mut Random) -> (Car, Vec<u32>) {
         words.push(word);
     }
     (start, words)
+}
+
+// ---------------------------------------------------------------- Moves
+
+/// The steps between the Ds and between the wanted ones, of which neither goes into tens or hundreds.
+const DESIRED_STEP: usize = 83;
+const WANTED_STEP: usize = 41;
+
+/// Cars with cruise on and both levers in neutral, each with wanted Ds for words: taken regularly from all pairs, the same
+/// that no list gives, all that one gives, and tens to tens.
+fn goal_rows() -> Vec<Workload> {
+    let every = |_: &Car| (0..=2002).step_by(WANTED_STEP).collect::<Vec<u32>>();
+    let reached = |car: &Car| car.reached().map_or(Vec::new(), |reached| reached.into_keys().collect());
+    let none = |car: &Car| every(car).into_iter().filter(|&wanted| car.moves(wanted).is_err()).collect();
+    let tens = |_: &Car| (10..=2000).step_by(30).collect();
+    vec![
+        goals("every pair", (1..=2000).step_by(DESIRED_STEP), every),
+        goals("no list", (1..=2000).step_by(DESIRED_STEP), none),
+        goals("with a list", (1..=2000).step_by(DESIRED_STEP), reached),
+        goals("tens to tens", (10..=2000).step_by(70), tens),
+    ]
+}
+
+fn goals(name: &'static str, desired: impl Iterator<Item = i32>, wanted: impl Fn(&Car) -> Vec<u32>) -> Workload {
+    let car = |desired| {
+        let fresh = Car::fresh(1, 0, 0).expect("good settings");
+        Car { key: Key::On, cruise: true, desired, ..fresh }
+    };
+    let lessons = desired.map(car).map(|car| Lesson::of((car, wanted(&car)))).collect();
+    Workload { name, lessons }
 }
 
 // ---------------------------------------------------------------- Marks
@@ -400,6 +434,23 @@ fn model_see(lesson: &Lesson, _: &mut [u32]) -> u32 {
     vehicles(lesson).fold(0, see) ^ record[7]
 }
 
+/// Moves to each word of the lesson as a wanted D.
+fn library_moves(lesson: &Lesson, _: &mut [u32]) -> u32 {
+    lesson.words.iter().fold(0, |sum: u32, &wanted| {
+        let (refusal, words, count) = library::moves(Some(black_box(&lesson.record)), wanted);
+        let first = words[1] ^ words[6];
+        sum.wrapping_add(refusal).wrapping_add(first ^ count[1] as u32)
+    })
+}
+
+fn model_moves(lesson: &Lesson, _: &mut [u32]) -> u32 {
+    lesson.words.iter().fold(0, |sum: u32, &wanted| {
+        let (refusal, Moves { count, words }) = moved(Car::read(black_box(&lesson.record)), wanted);
+        let first = words[0] ^ words[5];
+        sum.wrapping_add(refusal).wrapping_add(first ^ count as u32)
+    })
+}
+
 /// A record read and tested once for each word; the words only say how often.
 fn library_test(lesson: &Lesson, _: &mut [u32]) -> u32 {
     lesson.words.iter().fold(0, |sum, _| sum + library::test(Some(black_box(&lesson.record))))
@@ -465,6 +516,36 @@ fn print_pairs(name: &str, workloads: &[Workload], ways: &[(&str, Way); 2]) {
         let [library, model] = medians(workload, ways);
         println!("{name:<9}{:<14}{library:>10.2}{model:>10.2}{:>10.2}", workload.name, library / model);
     }
+}
+
+/// How often the moves to one wanted D are asked for in a row, and in how many rows.
+const CALLS: u32 = 20;
+const ROWS: usize = 5;
+
+/// The pair whose quickest row is the slowest.
+fn print_slowest(workloads: &[Workload]) {
+    let mut slowest = (0.0, String::new());
+    for lesson in workloads.iter().flat_map(|workload| &workload.lessons) {
+        for &wanted in &lesson.words {
+            let rows = (0..ROWS).map(|_| row_of_moves(&lesson.record, wanted));
+            let quickest = rows.fold(f64::INFINITY, f64::min);
+            if quickest > slowest.0 {
+                let (refusal, Moves { count, .. }) = moved(Some(lesson.car()), wanted);
+                let given = if refusal == 0 { format!("{count} words") } else { format!("refused {refusal}") };
+                slowest = (quickest, format!("from D {} to {wanted}, {given}", lesson.car().desired));
+            }
+        }
+    }
+    println!("the slowest of them in {:.2}, {}", slowest.0, slowest.1);
+}
+
+/// A row's time in ns per call.
+fn row_of_moves(record: &[u32; 12], wanted: u32) -> f64 {
+    let start = Instant::now();
+    for _ in 0..CALLS {
+        black_box(library::moves(Some(black_box(record)), black_box(wanted)));
+    }
+    start.elapsed().as_nanos() as f64 / f64::from(CALLS)
 }
 
 fn print_copies(workloads: &[Workload]) {

@@ -30,7 +30,7 @@ const MARKED: Rooms = Rooms { input: 2 * INPUT_ROOM, output: 131_072 - 21 };
 /// Those of a program that reads and prints piece by piece.
 const ANY: Rooms = Rooms { input: usize::MAX, output: usize::MAX };
 
-const PROGRAMS: [Program; 13] = [
+const PROGRAMS: [Program; 15] = [
     tested("event_words", inputs::event_words, expected::event_words),
     tested("car_figures", inputs::car_figures, expected::car_figures),
     tested("calls", inputs::calls, expected::calls),
@@ -39,11 +39,13 @@ const PROGRAMS: [Program; 13] = [
     tested("cab_words", inputs::cab_words, expected::cab_words),
     Program { rooms: COPIED, ..tested("copies", inputs::copies, expected::copies) },
     Program { rooms: MARKED, ..tested("marks", inputs::marks, expected::marks) },
+    tested("levers", inputs::levers, expected::levers),
     tested("sightings", inputs::sightings, expected::sightings),
     tested("alikes", inputs::alikes, expected::alikes),
     Program { rooms: ANY, ..tested(LESSON, inputs::lesson, expected::lesson) },
     Program { rooms: ANY, parts: Parts::Words, ..tested("clean", inputs::clean, expected::clean) },
     Program { rooms: ANY, argument: Some(inputs::MARK), ..tested("mark", inputs::mark, expected::mark) },
+    Program { rooms: ANY, argument: Some(inputs::WANTED), ..tested("moves", inputs::moves, expected::moves) },
 ];
 
 const fn tested(
@@ -60,8 +62,18 @@ const LONGEST: &str = "clock-end.bin";
 /// The one that lists the files of its data/.
 const VECTORS: &str = "crates/vectors";
 /// The files of a folder that the programs' inputs come from beside those.
-const OTHERS: [&str; 9] =
-    ["alike.in", "calls.in", "copy.in", "edges.in", "mark.in", "sighting.in", "write.in", "records.txt", LONGEST];
+const OTHERS: [&str; 10] = [
+    "alike.in",
+    "calls.in",
+    "copy.in",
+    "edges.in",
+    "mark.in",
+    "moves.in",
+    "sighting.in",
+    "write.in",
+    "records.txt",
+    LONGEST,
+];
 
 /// Holds every `stdout` to the model's answers to its input: true when there is no difference.
 pub fn run() -> bool {

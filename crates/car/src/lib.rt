@@ -148,7 +148,7 @@ fn first(settings: Settings) -> Car
 
 // The ceiling of D and B.
 #[tactic(auto, using(kit::specs::Pick::picks), unfolding(crate::specs::Car::ceiling_of))]
-pub(crate) fn ceiling(settings: Settings) -> u32
+pub fn ceiling(settings: Settings) -> u32
     ensures { result ≡ ceiling_of settings }
 {
     if settings.towing {

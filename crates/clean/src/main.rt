@@ -66,7 +66,7 @@ fn clean_events(pipe: &mut Pipe, settings: &[u8], car: Car) -> Result<(), Told> 
     Ok(())
 }
 
-// `mark` opens its file alike: shared, it would be a function of two closures, longer than both.
+// Not by `read_settings`: the bytes go out too.
 fn clean(pipe: &mut Pipe) -> Result<(), Told> {
     let mut first = [0; 4];
     let count = pipe.read_all(&mut first)?;

@@ -1,4 +1,4 @@
-// The arguments of a program that reads one file: none for standard input, or the file's name, or `--help` alone; and of one that takes a mark
+// The arguments of a program that reads one file: none for standard input, or the file's name, or `--help` alone; and of one that takes a number
 // before it.
 #![tactic(auto, using(kit::specs::Pick::picks))]
 
@@ -146,8 +146,8 @@ fn first_number(rt: &HostRuntime, what: &mut [u8]) -> Option<u32> {
     }
 }
 
-// The same of a program that takes a mark as its first argument, and the file's name as its second.
-pub fn asked_mark<'a>(
+// The same of a program that takes a number as its first argument, and the file's name as its second.
+pub fn asked_number<'a>(
     rt: &HostRuntime,
     program: &[u8],
     what: &'a mut [u8],
@@ -158,7 +158,7 @@ pub fn asked_mark<'a>(
         return Ok(Request::Help);
     }
     match first_number(rt, what) {
-        Some(mark) => input(rt, mark, 2, program, what),
+        Some(number) => input(rt, number, 2, program, what),
         None => Ok(Request::Usage),
     }
 }

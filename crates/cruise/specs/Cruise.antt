@@ -17,6 +17,8 @@ use Rattle.event.specs.declared.refusal.Refusal.{Refusal}
 use Rattle.event.specs.Refusal.{refusal_number}
 use Rattle.passing.specs.declared.Marked as marked
 use Rattle.passing.specs.Passing.{event_number, mark_of}
+use Rattle.lever.specs.Fewest.{Moves, turned_away}
+use Rattle.lever.specs.FewestShape.{fewest_of}
 use Rattle.sighting.specs.declared.Sighting.{Sighting}
 use Rattle.sighting.specs.declared.Sighting.TheVariants.{Vehicle, Free, Fault}
 use Rattle.sighting.specs.Sighting.{seen_word}
@@ -107,6 +109,14 @@ mark_left mark (gives c) words =
       seconds = (mark_of mark c words).seconds;
     }
 mark_left mark (refused n) words = record { refusal = n; event = 0; seconds = 0 }
+
+-- cruise_moves: the answer to the record's car, 18 where there is none
+abbrev pub MovesLeft : Type 0
+MovesLeft = Moves
+
+unfoldable pub moves_left : Answer Car → ℕ → MovesLeft
+moves_left (gives c) wanted = fewest_of c wanted
+moves_left (refused n) wanted = turned_away n
 
 -- a sighting as its kind and two floats: 0 a vehicle, 1 a free road, 2 a fault; any other kind is a fault of the caller, refused with 1, "no such kind"
 unfoldable pub sighting_of : ℕ → Float → Float → Answer Sighting

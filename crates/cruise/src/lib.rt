@@ -13,12 +13,14 @@ ghost use Rattle.settings.specs.SettingsWord.{start_of};
 ghost use Rattle.car.specs.Figures.{figures_answer};
 ghost use Rattle.record.specs.Record.{read_of};
 ghost use Rattle.record.specs.RecordLesson.{LessonLeft, lesson_left};
+ghost use Rattle.lever.specs.Fewest.{moves_answer};
 ghost use Rattle.copy.specs.Copy.{Copied, copy_answer, started_copy, started_buffer};
-ghost use Rattle.cruise.specs.Cruise.{Left, fresh_left, drive_left, figures_read, Dials, dials_of, alike_refusal, alike_answer, MarkLeft, mark_found, mark_left, sighting_of, handed_word, SightingLeft, sighting_left, see_left};
+ghost use Rattle.cruise.specs.Cruise.{Left, fresh_left, drive_left, figures_read, Dials, dials_of, alike_refusal, alike_answer, MarkLeft, mark_found, mark_left, MovesLeft, moves_left, sighting_of, handed_word, SightingLeft, sighting_left, see_left};
 
 use answer::Answer;
 use car::figures::Figures;
 use event::{Refusal, refusal};
+use lever::Moves;
 use motion::Acceleration;
 use passing::Marked;
 use sighting::Sighting;
@@ -168,6 +170,32 @@ pub fn cruise_mark(
         Err(refusal) => {
             *event = 0;
             *seconds = 0;
+            u32::from(refusal)
+        }
+    }
+}
+
+// The list, from the record's car.
+fn fewest(record: &[u32], wanted: u32) -> Result<Moves, Refusal>
+    ensures { moves_answer result ≡ moves_left (read_of «record».now) wanted }
+{
+    lever::fewest(record::read_from(record)?, wanted)
+}
+
+#[tactic(auto, using(kit::specs::Pick::picks), unfolding(lever::specs::Fewest::turned_away))]
+pub fn cruise_moves(record: &[u32], wanted: u32, moves: &mut [u32; 6], count: &mut usize) -> u32
+    ensures { ◌≡◌ {A = MovesLeft} (record { refusal = result; count = count.new; words = moves.new }) (moves_left (read_of «record».now) wanted) }
+{
+    match fewest(record, wanted) {
+        Ok(list) => {
+            let words = list.words;
+            *moves = words;
+            *count = list.count;
+            0
+        }
+        Err(refusal) => {
+            *moves = [0; 6];
+            *count = 0;
             u32::from(refusal)
         }
     }

@@ -8,7 +8,7 @@ ghost use Rattle.settings.specs.SettingsWord.{start_of};
 ghost use Rattle.record.specs.Record.{read_of};
 ghost use Rattle.record.specs.RecordLesson.{LessonLeft, lesson_left};
 ghost use Rattle.copy.specs.Copy.{Copied, started_copy, started_buffer};
-ghost use Rattle.cruise.specs.Cruise.{Left, fresh_left, drive_left, figures_read, Dials, dials_of, alike_refusal, alike_answer, MarkLeft, mark_left, sighting_of, handed_word, SightingLeft, sighting_left, see_left};
+ghost use Rattle.cruise.specs.Cruise.{Left, fresh_left, drive_left, figures_read, Dials, dials_of, alike_refusal, alike_answer, MarkLeft, mark_left, MovesLeft, moves_left, sighting_of, handed_word, SightingLeft, sighting_left, see_left};
 
 #[unsafe(no_mangle)]
 pub extern "C" fn cruise_fresh(settings: u32, record: &mut [u32]) -> u32
@@ -60,6 +60,18 @@ pub extern "C" fn cruise_mark(
     ensures { ◌≡◌ {A = MarkLeft} (record { refusal = result; event = event.new; seconds = seconds.new }) (mark_left mark (read_of «record».now) words.now) }
 {
     cruise::cruise_mark(record, words, mark, event, seconds)
+}
+
+#[unsafe(no_mangle)]
+pub extern "C" fn cruise_moves(
+    record: &[u32],
+    wanted: u32,
+    moves: &mut [u32; 6],
+    count: &mut usize,
+) -> u32
+    ensures { ◌≡◌ {A = MovesLeft} (record { refusal = result; count = count.new; words = moves.new }) (moves_left (read_of «record».now) wanted) }
+{
+    cruise::cruise_moves(record, wanted, moves, count)
 }
 
 #[unsafe(no_mangle)]

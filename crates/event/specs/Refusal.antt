@@ -30,6 +30,8 @@ refusal_number refusal.CutWord = 21
 refusal_number refusal.BadFloat = 22
 refusal_number refusal.TooFast = 23
 refusal_number refusal.GapWithdrawn = 24
+refusal_number refusal.NotReadyToMove = 25
+refusal_number refusal.OutOfReach = 26
 
 -- what a result says: a value, or the refusal's number
 abbrev pub answer : {A : Type 0} → Result A Refusal → Answer A

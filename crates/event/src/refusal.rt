@@ -35,6 +35,9 @@ pub enum Refusal {
     TooFast = 23,
     // Whoever wrote the file while 3.0 seconds could be chosen.
     GapWithdrawn = 24,
+    // Whoever asks for moves of the lever.
+    NotReadyToMove = 25,
+    OutOfReach = 26,
 }
 
 impl From<Refusal> for u32 {

@@ -1,12 +1,12 @@
 -- Laws of the listing: digits, the line of a refusal, a text that has room, the printed listing's lines.
 -- Assumes nothing.
-use Rattle.std.specs.Prelude.{◌≡◌, refl, Bool, true, false, List, [], ◌∷◌, ◌++◌, ℕ, zero, suc, ◌+◌, ◌-◌, ◌/◌, ◌%◌, ◌^◌, ◌≤◌, ◌<◌, leb, ltb, length}
-use Rattle.std.proofs.Common.{sym, ap, ◌∙◌, pow-suc, arith, lt-ltb, le-ltb, le-leb, leb-true, ltb-true, ltb-false, length-append}
-use Rattle.kit.specs.Pick.{pick, pick_true, pick_false, pick_case}
+use Rattle.std.specs.Prelude.{◌≡◌, refl, Bool, true, false, List, [], ◌∷◌, ◌++◌, ℕ, zero, suc, ◌+◌, ◌-◌, ◌*◌, ◌/◌, ◌%◌, ◌^◌, ◌≤◌, ◌<◌, leb, ltb, length, take}
+use Rattle.std.proofs.Common.{sym, ap, ◌∙◌, zero-add, pow-suc, arith, lt-ltb, le-ltb, le-leb, leb-true, ltb-true, ltb-false, length-append}
+use Rattle.kit.specs.Pick.{pick, pick_true, pick_false, pick_case, either}
 use Rattle.kit.specs.Placed.{placed}
 use Rattle.event.specs.Words.{bit_of}
 use Rattle.answer.specs.AnswerWord.{read_of}
-use Rattle.listing.specs.Listing.{digit, decimal_in, decimal_of, field_of, signed_of, warnings_of, answer_line, line_of, ascii, number_line, refused_text, put_past, put_after}
+use Rattle.listing.specs.Listing.{digit, decimal_in, decimal_of, field_of, signed_of, warnings_of, answer_line, line_of, ascii, number_line, refused_text, hex_digit, word_line, put_past, put_after}
 
 -- ---- digits
 
@@ -61,6 +61,54 @@ line_length name n h = simp length-append (omega (arith, decimal_length 19 n h))
 pub refused_length : (n : ℕ) → n < 10 ^ 20 → length (refused_text n) ≤ 29
 unfolding ascii refused_text
 refused_length n h = line_length (ascii "refused ") n h
+
+-- ---- the line of a word
+-- what a digit says
+abbrev hex_value : ℕ → ℕ
+hex_value d = pick (ltb d 58) (d - 48) (d - 55)
+
+digit_value : (n : ℕ) → n < 16 → hex_value (hex_digit n) ≡ n
+unfolding hex_digit
+digit_value n h =
+    either (ltb n 10)
+    (λ t. let l = ltb-true n 10 t in rw (pick_true _ (48 + n) (55 + n) t, pick_true _ (48 + n - 48) (48 + n - 55) (lt-ltb (48 + n) 58 (omega arith))) (omega arith))
+    (λ t. let l = ltb-false n 10 t in rw (pick_false _ (48 + n) (55 + n) t, pick_false _ (55 + n - 48) (55 + n - 55) (le-ltb (55 + n) 58 (omega arith))) (omega arith))
+
+-- what digits say behind a number
+pub digits_value : ℕ → List ℕ → ℕ
+digits_value n [] = n
+digits_value n (d ∷ ds) = digits_value (16 * n + hex_value d) ds
+
+-- the line's eight digits say the word
+pub word_line_value : (w : ℕ) → w < 2 ^ 32 → digits_value 0 (take 8 (word_line w)) ≡ w
+unfolding word_line digits_value
+word_line_value w h =
+    let a : w / 16 ^ 7 < 16 = omega arith in
+    let last : w % 16 < 16 = omega arith in
+    let b : 16 * (w / 16 ^ 7) + w / 16 ^ 6 % 16 ≡ w / 16 ^ 6 = omega arith in
+    let c : 16 * (w / 16 ^ 6) + w / 16 ^ 5 % 16 ≡ w / 16 ^ 5 = omega arith in
+    let d : 16 * (w / 16 ^ 5) + w / 16 ^ 4 % 16 ≡ w / 16 ^ 4 = omega arith in
+    let e : 16 * (w / 16 ^ 4) + w / 16 ^ 3 % 16 ≡ w / 16 ^ 3 = omega arith in
+    let f : 16 * (w / 16 ^ 3) + w / 16 ^ 2 % 16 ≡ w / 16 ^ 2 = omega arith in
+    let g : 16 * (w / 16 ^ 2) + w / 16 % 16 ≡ w / 16 = omega arith in
+    let i : 16 * (w / 16) + w % 16 ≡ w = omega arith in
+    rw (
+      digit_value (w / 16 ^ 7) a,
+      digit_value (w / 16 ^ 6 % 16) (omega arith),
+      digit_value (w / 16 ^ 5 % 16) (omega arith),
+      digit_value (w / 16 ^ 4 % 16) (omega arith),
+      digit_value (w / 16 ^ 3 % 16) (omega arith),
+      digit_value (w / 16 ^ 2 % 16) (omega arith),
+      digit_value (w / 16 % 16) (omega arith),
+      digit_value (w % 16) last,
+      zero-add (w / 16 ^ 7),
+      b,
+      c,
+      d,
+      e,
+      f,
+      g,
+    ) i
 
 -- ---- a text in a slice
 -- where there is room for it

@@ -1,6 +1,6 @@
 -- The printed listing: document 01, "The cab, alike, and the program". Text is a list of ASCII codes.
 -- Assumes nothing.
-use Rattle.std.specs.Prelude.{Bool, ◌||◌, List, [], ◌∷◌, ◌++◌, ℕ, zero, suc, ◌+◌, ◌-◌, ◌*◌, ◌/◌, ◌%◌, leb, ltb, length}
+use Rattle.std.specs.Prelude.{Bool, ◌||◌, List, [], ◌∷◌, ◌++◌, ℕ, zero, suc, ◌+◌, ◌-◌, ◌*◌, ◌/◌, ◌%◌, ◌^◌, leb, ltb, length}
 use Prim.Native.Char.{code}
 use Prim.Native.String.{String, [] as []ˢ, ◌∷◌ as ◌∷ˢ◌}
 use Rattle.kit.specs.Pick.{pick}
@@ -64,6 +64,15 @@ number_line name n = name ++ decimal_of n ++ ascii "\n"
 -- the line of a refusal
 unfoldable pub refused_text : ℕ → List ℕ
 refused_text n = number_line (ascii "refused ") n
+
+-- the line of a word: its eight digits in hexadecimal, capital letters from ten on
+unfoldable pub hex_digit : ℕ → ℕ
+hex_digit n = pick (ltb n 10) (48 + n) (55 + n)
+
+unfoldable pub word_line : ℕ → List ℕ
+word_line w =
+    hex_digit (w / 16 ^ 7) ∷ hex_digit (w / 16 ^ 6 % 16) ∷ hex_digit (w / 16 ^ 5 % 16) ∷ hex_digit (w / 16 ^ 4 % 16) ∷ hex_digit (w / 16 ^ 3 % 16)
+    ∷ hex_digit (w / 16 ^ 2 % 16) ∷ hex_digit (w / 16 % 16) ∷ hex_digit (w % 16) ∷ ascii "\n"
 
 -- ---- text in a slice
 

@@ -11,9 +11,11 @@ use crate::line::put_line;
 use crate::text::has_room;
 
 mod digits;
+mod hexadecimal;
 mod line;
 mod text;
 
+pub use hexadecimal::put_word_line;
 pub use text::{put_decimal, put_number_line, put_refused, put_text};
 
 // A line for each event, by its answer word and v, the numbers rising from `first`. Room is 64 bytes for each. With fewer speeds than answers, or

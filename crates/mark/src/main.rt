@@ -70,11 +70,8 @@ fn mark_events(pipe: &mut Pipe, mark: u32, car: Car) -> Result<(), Told> {
     pipe.write(&text[0..end])
 }
 
-// As `clean` opens its file.
 fn mark_file(pipe: &mut Pipe, mark: u32) -> Result<(), Told> {
-    let mut first = [0; 4];
-    let count = pipe.read_all(&mut first)?;
-    match cleaning::open(&first[..count]) {
+    match pipe.read_settings()? {
         Ok(car) => mark_events(pipe, mark, car),
         Err(refusal) => refuse(pipe, refusal),
     }
@@ -82,6 +79,6 @@ fn mark_file(pipe: &mut Pipe, mark: u32) -> Result<(), Told> {
 
 fn main(rt: HostRuntime) {
     let mut what = [0; 4104];
-    let request = command::asked_mark(&rt, b"mark: ", &mut what);
+    let request = command::asked_number(&rt, b"mark: ", &mut what);
     let _ = pieces::answer(&rt, TEXTS, request, |mark, pipe| mark_file(pipe, mark));
 }

@@ -6,8 +6,10 @@ ghost use Rattle.std.specs.Prelude.{◌≡◌, ◌≤◌, length, IfOk, IsOk, Is
 ghost use Rattle.kit.specs.Placed.{placed};
 ghost use Rattle.listing.specs.Listing.{refused_text};
 
+use car::Car;
 use command::Request;
 use console::{Source, Told};
+use event::Refusal;
 
 // What a program says of itself: the name of its output, its usage and its help.
 #[derive(Clone, Copy)]
@@ -75,6 +77,13 @@ impl Pipe<'_> {
         ensures { IfOk result (λ n. n ≤ length bytes.new) }
     {
         console::read_all(&mut self.source, &mut self.rt.stderr(), bytes, self.input)
+    }
+
+    // The car of the settings word that the input begins with, or its refusal.
+    pub fn read_settings(&mut self) -> Result<Result<Car, Refusal>, Told> {
+        let mut first = [0; 4];
+        let count = self.read_all(&mut first)?;
+        Ok(cleaning::open(&first[..count]))
     }
 
     // Writes a text. For none nothing is done.

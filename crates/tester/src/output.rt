@@ -61,7 +61,7 @@ impl Page<'_> {
     }
 
     // A count of words and a blank. Beside `number`, since a usize is no `Into<u64>`.
-    fn count(&mut self, count: usize)
+    pub fn count(&mut self, count: usize)
         ensures { Puts self.old self.new (λ p. put_number p count) }
     {
         self.ended(count as u64, b' ');

@@ -1,0 +1,2 @@
+pub mod Moving
+pub mod Pieces
