@@ -6,8 +6,8 @@
 #include <stdio.h>
 #include <string.h>
 
-#if CRUISE_VERSION < 0x000A00 || CRUISE_VERSION >= 0x010000
-#error "calls.c is for version 0.10 and those that keep to it"
+#if CRUISE_VERSION < 0x000B00 || CRUISE_VERSION >= 0x010000
+#error "calls.c is for version 0.11 and those that keep to it"
 #endif
 
 /* What a buffer holds before a call, and the words round it always. */
@@ -98,6 +98,7 @@ static void copy(uint32_t *to, const uint32_t *from)
 static void words(void)
 {
     EQUAL(WORDS, 12);
+    EQUAL(CRUISE_MOVES_WORDS, 6);
     EQUAL(CRUISE_CUT_WORD, 21); /* the only refusal that no function gives */
     EQUAL(cruise_word_settings(CRUISE_MODE_NORMAL, 0), 0xD0000001);
     EQUAL(cruise_word_settings(CRUISE_MODE_ADAPTIVE, 0), 0xD0000002);
@@ -831,6 +832,169 @@ static void marks(void)
     EQUAL(seconds, 0);
 }
 
+/* The fewest moves: the refusal, the count between numbers that stay, and six words with 0 past the list; the record is only read. The list driven as a
+   lesson is refused nothing, and leaves L in neutral and the wanted D. */
+static void moves_is(int line, const uint32_t *car, size_t length, uint32_t wanted, uint32_t refusal, size_t count, const uint32_t *list)
+{
+    struct area record, got, answers;
+    uint32_t six[CRUISE_MOVES_WORDS] = {0, 0, 0, 0, 0, 0};
+    size_t counts[3] = {77, 77, 77}, accepted = 77, refused = 77;
+    for (size_t i = 0; i < count; i++) {
+        six[i] = list[i];
+    }
+    equal(line, "cruise_moves", cruise_moves(lay(&record, car, length), length, wanted, lay(&got, NULL, 0), &counts[1]), refusal);
+    equal(line, "the count", (long long)counts[1], (long long)count);
+    equal(line, "a number before it", (long long)counts[0], 77);
+    equal(line, "a number behind it", (long long)counts[2], 77);
+    left(line, "the words", &got, six, CRUISE_MOVES_WORDS);
+    left(line, "the record", &record, car, length);
+    if (refusal != CRUISE_ACCEPTED) {
+        return;
+    }
+    equal(line, "driven", cruise_lesson(record.words + ROUND, length, six, count, lay(&answers, NULL, 0), count, &accepted, &refused), CRUISE_ACCEPTED);
+    equal(line, "accepted", (long long)accepted, (long long)count);
+    equal(line, "refused", (long long)refused, 0);
+    equal(line, "L behind it", record.words[ROUND] >> 5 & 7, CRUISE_NEUTRAL);
+    equal(line, "D behind it", record.words[ROUND + 4] & 0x7FF, wanted);
+}
+
+/* Lists worked out by hand from D 57.0 km/h, towing from 99.0; and those of the outside vectors. */
+static void moves(void)
+{
+    static const uint32_t at_570[WORDS] = {0xB0003011, 0xB1000000, 0xB20000D8, 0xB3000000, 0xB400023A, 0xB5000000,
+                                           0xB6000000, 0xB7000000, 0xB8000000, 0xB9000014, 0xBA000000, 0xBB000000};
+    static const uint32_t neutral = 0x20000000, up_5 = 0x20000001, up_7 = 0x20000002, down_5 = 0x20000003, down_7 = 0x20000004;
+    static const struct {
+        uint32_t wanted, refusal;
+        size_t count;
+        uint32_t car[WORDS], list[CRUISE_MOVES_WORDS];
+    } outside[] = {
+        {100u, 0, 2,
+         {0xB0001015, 0xB1000000, 0xB20000C9, 0xB3000000, 0xB400000B, 0xB5000000,
+          0xB6000000, 0xB70000FF, 0xB8000000, 0xB9000014, 0xBA000000, 0xBB000000},
+         {0x20000002, 0x20000000}},
+        {20u, 0, 4,
+         {0xB0001012, 0xB1000000, 0xB200000A, 0xB3000000, 0xB4000064, 0xB5000000,
+          0xB6000000, 0xB70000FF, 0xB8000000, 0xB9000014, 0xBA00025D, 0xBB00025D},
+         {0x20000004, 0x20000000, 0x20000001, 0x20000000}},
+        {29u, 26, 0,
+         {0xB0001012, 0xB1000000, 0xB20003E7, 0xB3000000, 0xB4000063, 0xB5000000,
+          0xB6000000, 0xB70000FF, 0xB8000000, 0xB9000014, 0xBA000000, 0xBB000000},
+         {0}},
+        {2010u, 25, 0,
+         {0xB0003116, 0xB1000000, 0xB2000066, 0xB3000000, 0xB43E37D0, 0xB5000000,
+          0xB6000000, 0xB7000100, 0xB8000000, 0xB9000019, 0xBA00000C, 0xBB000008},
+         {0}},
+        {1990u, 26, 0,
+         {0xB0005012, 0xB1000000, 0xB20000D7, 0xB3000000, 0xB40002CA, 0xB5000000,
+          0xB6000000, 0xB70000FF, 0xB8000000, 0xB9000014, 0xBA00025F, 0xBB00025F},
+         {0}},
+        {1000u, 0, 0,
+         {0xB0005016, 0xB1000000, 0xB20003E7, 0xB3000000, 0xB40003E8, 0xB5000000,
+          0xB6000000, 0xB70000FF, 0xB8000000, 0xB9000014, 0xBA01517D, 0xBB01517D},
+         {0}},
+        {800u, 0, 4,
+         {0xB0005016, 0xB1000000, 0xB20003E9, 0xB3000000, 0xB40003E3, 0xB5000000,
+          0xB6000000, 0xB70000FF, 0xB8000000, 0xB9000014, 0xBA000013, 0xBB000013},
+         {0x20000004, 0x20000000, 0x20000004, 0x20000000}},
+        {570u, 0, 0,
+         {0xB0001011, 0xB1000000, 0xB200000A, 0xB3000000, 0xB400023A, 0xB5000000,
+          0xB6000000, 0xB70000FF, 0xB8000000, 0xB9000014, 0xBA000252, 0xBB000252},
+         {0}},
+        {300u, 0, 2,
+         {0xB0005015, 0xB1000000, 0xB20000DA, 0xB3000000, 0xB4000136, 0xB5000000,
+          0xB6000000, 0xB70000FF, 0xB8000000, 0xB9000014, 0xBA000000, 0xBB000000},
+         {0x20000003, 0x20000000}},
+        {110u, 0, 3,
+         {0xB0001012, 0xB1000000, 0xB20003E8, 0xB3000000, 0xB400000B, 0xB5000000,
+          0xB6000000, 0xB70000FF, 0xB8000000, 0xB9000014, 0xBA01517E, 0xBB01517E},
+         {0x20000002, 0x20000001, 0x20000000}},
+        {620u, 0, 5,
+         {0xB0005012, 0xB1000000, 0xB20000C7, 0xB3000000, 0xB400023A, 0xB5000000,
+          0xB6000000, 0xB70000FF, 0xB8000000, 0xB9000014, 0xBA000014, 0xBB000014},
+         {0x20000002, 0x20000001, 0x20000000, 0x20000001, 0x20000000}},
+        {1930u, 0, 6,
+         {0xB0001012, 0xB1000000, 0xB20007D0, 0xB3000000, 0xB400076C, 0xB5000000,
+          0xB6000000, 0xB70000FF, 0xB8000000, 0xB9000014, 0xBA000009, 0xBB000009},
+         {0x20000001, 0x20000000, 0x20000001, 0x20000000, 0x20000001, 0x20000000}},
+        {700u, 0, 6,
+         {0xB0005016, 0xB1000000, 0xB20001B1, 0xB3000000, 0xB40003E3, 0xB5000000,
+          0xB6000000, 0xB70000FF, 0xB8000000, 0xB9000014, 0xBA000014, 0xBB000014},
+         {0x20000004, 0x20000000, 0x20000004, 0x20000000, 0x20000004, 0x20000000}},
+        {382u, 25, 0,
+         {0xB0006C36, 0xB1000000, 0xB2000000, 0xB30004AE, 0xB40001A6, 0xB5000000,
+          0xB6000000, 0xB707CA2F, 0xB80007CB, 0xB9000019, 0xBA015045, 0xBB014DEF},
+         {0}},
+        {520u, 0, 5,
+         {0xB0001012, 0xB1000000, 0xB20000C9, 0xB3000000, 0xB40001F2, 0xB5000000,
+          0xB6000000, 0xB70000FF, 0xB8000000, 0xB9000014, 0xBA01517B, 0xBB01517B},
+         {0x20000002, 0x20000001, 0x20000000, 0x20000001, 0x20000000}},
+        {110u, 0, 3,
+         {0xB0005011, 0xB1000000, 0xB2001387, 0xB3000000, 0xB4000063, 0xB5000000,
+          0xB6000000, 0xB70000FF, 0xB8000000, 0xB9000014, 0xBA000000, 0xBB000000},
+         {0x20000002, 0x20000001, 0x20000000}},
+    };
+    const uint32_t to_610[] = {up_7, up_5, neutral}, to_500[] = {down_7, neutral}, to_1000[] = {up_5, neutral};
+    const uint32_t to_540[] = {down_5, neutral, down_5, neutral, down_5, neutral};
+    uint32_t car[WORDS], six[CRUISE_MOVES_WORDS];
+    size_t count = 77;
+    EQUAL(CRUISE_NOT_READY_TO_MOVE, 25);
+    EQUAL(CRUISE_OUT_OF_REACH, 26);
+
+    moves_is(__LINE__, at_570, WORDS, 570, CRUISE_ACCEPTED, 0, NULL);
+    moves_is(__LINE__, at_570, WORDS, 610, CRUISE_ACCEPTED, 3, to_610);
+    moves_is(__LINE__, at_570, WORDS, 500, CRUISE_ACCEPTED, 2, to_500);
+    moves_is(__LINE__, at_570, WORDS, 540, CRUISE_ACCEPTED, 6, to_540);
+    moves_is(__LINE__, at_570, WORDS, 575, CRUISE_OUT_OF_REACH, 0, NULL);
+    moves_is(__LINE__, at_570, WORDS, 640, CRUISE_OUT_OF_REACH, 0, NULL);
+    moves_is(__LINE__, at_570, WORDS, 0, CRUISE_OUT_OF_REACH, 0, NULL);
+    moves_is(__LINE__, at_570, WORDS, 2001, CRUISE_OUT_OF_REACH, 0, NULL);
+    moves_is(__LINE__, at_570, WORDS, 0xFFFFFFFF, CRUISE_OUT_OF_REACH, 0, NULL);
+
+    /* at the ceiling up5 and up7 give the same D, and up5 comes first */
+    copy(car, at_570);
+    car[4] = 0xB40003DE;
+    moves_is(__LINE__, car, WORDS, 1000, CRUISE_ACCEPTED, 2, to_1000);
+    car[0] = 0xB0007011;
+    moves_is(__LINE__, car, WORDS, 1000, CRUISE_ACCEPTED, 2, to_1000);
+    moves_is(__LINE__, car, WORDS, 1010, CRUISE_OUT_OF_REACH, 0, NULL);
+
+    /* cruise off, L out, M out: also where no list would do it */
+    copy(car, at_570);
+    car[0] = 0xB0002011;
+    moves_is(__LINE__, car, WORDS, 610, CRUISE_NOT_READY_TO_MOVE, 0, NULL);
+    moves_is(__LINE__, car, WORDS, 0, CRUISE_NOT_READY_TO_MOVE, 0, NULL);
+    car[0] = 0xB0003111;
+    moves_is(__LINE__, car, WORDS, 570, CRUISE_NOT_READY_TO_MOVE, 0, NULL);
+    car[0] = 0xB0003031;
+    car[6] = 0xB600023A;
+    moves_is(__LINE__, car, WORDS, 570, CRUISE_NOT_READY_TO_MOVE, 0, NULL);
+    moves_is(__LINE__, fresh, WORDS, 0, CRUISE_NOT_READY_TO_MOVE, 0, NULL);
+    moves_is(__LINE__, listed, WORDS, 108, CRUISE_NOT_READY_TO_MOVE, 0, NULL);
+
+    /* records that are none */
+    moves_is(__LINE__, at_570, WORDS - 1, 610, CRUISE_NOT_ACCEPTED, 0, NULL);
+    moves_is(__LINE__, listing, 10, 610, CRUISE_NOT_ACCEPTED, 0, NULL);
+    copy(car, at_570);
+    car[4] = 0xB4000000;
+    moves_is(__LINE__, car, WORDS, 0, CRUISE_NOT_ACCEPTED, 0, NULL);
+    EQUAL(cruise_moves(NULL, 0, 610, six, &count), CRUISE_NOT_ACCEPTED);
+    EQUAL(count, 0);
+    for (size_t i = 0; i < CRUISE_MOVES_WORDS; i++) {
+        EQUAL(six[i], 0);
+    }
+
+    /* the car of a record that holds 30 is moved as with 25 */
+    copy(car, at_570);
+    car[9] = 0xB900001E;
+    EQUAL(cruise_moves(car, WORDS, 610, six, &count), CRUISE_ACCEPTED);
+    EQUAL(count, 3);
+    EQUAL(car[9], 0xB900001E);
+    for (size_t i = 0; i < sizeof outside / sizeof outside[0]; i++) {
+        moves_is(__LINE__, outside[i].car, WORDS, outside[i].wanted, outside[i].refusal, outside[i].count, outside[i].list);
+    }
+}
+
 /* The float of these bits. */
 static float float_of(uint32_t bits)
 {
@@ -1484,6 +1648,7 @@ int main(void)
     lessons();
     copies();
     marks();
+    moves();
     sightings();
     sees();
     refusals();

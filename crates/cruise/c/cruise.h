@@ -30,11 +30,12 @@ extern "C" {
 
 /* The version of this header and of the archive beside it: it rises with each change of what a function gives. */
 #define CRUISE_VERSION_MAJOR 0
-#define CRUISE_VERSION_MINOR 10
+#define CRUISE_VERSION_MINOR 11
 #define CRUISE_VERSION (CRUISE_VERSION_MAJOR << 16 | CRUISE_VERSION_MINOR << 8)
 
-/* How many words a record has. */
+/* How many words a record has, and how many a list of moves has at most. */
 #define CRUISE_RECORD_WORDS 12
+#define CRUISE_MOVES_WORDS 6
 
 /* The refusals, in the words of documents 01 and 02. */
 enum {
@@ -70,7 +71,10 @@ enum {
     CRUISE_BAD_FLOAT = 22, /* a float that is no number, infinite or below zero */
     CRUISE_TOO_FAST = 23,  /* a speed above 500 km/h */
     /* Whoever wrote the file while 3.0 seconds could be chosen. */
-    CRUISE_GAP_WITHDRAWN = 24 /* the gap choice 30; in place of 3, so before 4 */
+    CRUISE_GAP_WITHDRAWN = 24, /* the gap choice 30; in place of 3, so before 4 */
+    /* Whoever asks for moves of the lever. */
+    CRUISE_NOT_READY_TO_MOVE = 25, /* cruise off or a lever out of neutral */
+    CRUISE_OUT_OF_REACH = 26       /* no list of at most six words does it */
 };
 
 /* The kind of a word: its top four bits. */
@@ -206,6 +210,15 @@ uint32_t cruise_copy(uint32_t settings, const uint32_t *words, size_t count, uin
    18 a record not of 12 words or not accepted: 0 and 0. */
 uint32_t cruise_mark(const uint32_t *record, size_t length, const uint32_t *words, size_t count, uint32_t mark, size_t *event,
                      size_t *seconds);
+
+/* The fewest moves of L that set a wanted D, in tenths of km/h, without a second passing: up-down lever words that the car accepts one after the other, the last
+   of them to neutral, and the D afterwards is the wanted one. No other list of at most six such words is shorter, and of those as short it is the one whose words
+   come first, compared as numbers from the first word on. Six words, 0 past the list, and the list's count; 0 words where D is the wanted one already. Nothing is
+   driven and the record is only read: hand the words to cruise_lesson, which refuses none of them and changes nothing but D and the last D set by hand. From
+   version 0.11 on.
+   18 a record not of 12 words or not accepted. 25 C = 0, or a lever out of neutral. 26 no list does it; so for a wanted D of 0 or above the ceiling, 2000, or
+   1000 towing. In this order, each with the count 0 and six zeros. */
+uint32_t cruise_moves(const uint32_t *record, size_t length, uint32_t wanted, uint32_t moves[CRUISE_MOVES_WORDS], size_t *count);
 
 /* A sighting of the scene engine (CRUISE_SIGHTING_VEHICLE and so on) as a radar event: its word, the same as cruise_word_radar gives. Of a
    vehicle the metres are rounded down, below 1 counts as 1, and 255 or more is a free road; its speed is the whole number of tenths at or below

@@ -3,9 +3,10 @@
 -- Assumes nothing.
 use Rattle.std.specs.Prelude.{true, ◌⊎◌, List, [], ◌∷◌, ◌≡◌, refl, ℕ, ◌≤◌, ◌<◌, length}
 use Rattle.std.proofs.Common.{⊎_elim, sym, subst, ◌∙◌, arith, eq-eqb, le-ltb}
-use Rattle.kit.specs.Pick.{pick_true, pick_false}
+use Rattle.kit.specs.Pick.{and_right, not_of_true, pick_true, pick_false}
 use Rattle.event.specs.Words.{body_of}
 use Rattle.car.specs.declared.Car.{Car}
+use Rattle.car.specs.declared.Levers.{Levers}
 use Rattle.car.specs.Car.{ceiling_of, with_levers, with_cruise}
 use Rattle.car.specs.Drive.{step_of}
 use Rattle.car.specs.Good.{good_of}
@@ -70,6 +71,20 @@ rest_stays c wanted [] r =
 rest_stays c wanted (w ∷ ws) r =
     untouched_then c (step_of c w).car _ (subst (Untouched c) (sym (accepted_step c w r.0 r.1)) (moved_untouched c (body_of w)))
     (rest_stays (step_of c w).car wanted ws r.2)
+
+-- the levers too stand as before the moves: with L in neutral T and B are 0
+pub levers_stay : (c : Car) (wanted : ℕ) (ws : List ℕ) → good_of c ≡ true → ready_to_move c ≡ true → Reaches c wanted ws → (driven c ws).levers ≡ c.levers
+levers_stay c wanted ws g r s =
+    let d : Car = driven c ws in
+    let l = (driven_ends c wanted ws s).0 in
+    let k = (ready_parts c r).1 in
+    let a = (good d (driven_good c ws g)).lever_idle (and_right d.cruise.on _ (not_of_true _ (eq-eqb d.levers.updown 0 l))) in
+    let b = (good c g).lever_idle (and_right c.cruise.on _ (not_of_true _ (eq-eqb c.levers.updown 0 k))) in
+    same (l ∙ sym k) (rest_stays c wanted ws s).foreback (a.0 ∙ sym b.0) (a.1 ∙ sym b.1)
+  where
+    same : {u u' f f' t t' b b' : ℕ} → u ≡ u' → f ≡ f' → t ≡ t' → b ≡ b'
+        → ◌≡◌ {A = Levers} (record { updown = u; foreback = f; time = t; base = b }) (record { updown = u'; foreback = f'; time = t'; base = b' })
+    same a b c d = rw (a, b, c, d) refl
 
 -- ---- "A D already reached gives the empty list"
 pub already_reached : (c : Car) (wanted : ℕ) → good_of c ≡ true → ready_to_move c ≡ true → c.cruise.desired ≡ wanted → fewest_of c wanted ≡ listed []
