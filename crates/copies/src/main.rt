@@ -14,7 +14,7 @@ use event::refusal::number;
 use std::convert::Infallible;
 use std::io;
 use std::num::NonZeroUsize;
-use tester::{Page, Reader};
+use tester::{FILE_BYTES, Page, Reader};
 
 // A lesson's words start here in the program's own array.
 const START: usize = 3;
@@ -25,10 +25,8 @@ const MOST: usize = 3072;
 // What a call is to store over, or to keep.
 const UNUSED: u32 = 0xDEAD_BEEF;
 
-// A file and its clean file have no more bytes, and so many words.
-const BYTES: usize = 4112;
-
-const WORDS: usize = 1028;
+// A clean file has no more words, as a file has.
+const WORDS: usize = FILE_BYTES / 4;
 
 fn copy_lines(page: &mut Page<'_>, refusal: u32, written: usize, buffer: &[u32]) {
     page.count_line(refusal, written);
@@ -60,7 +58,7 @@ fn by_car(page: &mut Page<'_>, car: Car, words: &[u32], buffer: &mut [u32]) {
     page.car_line(part.car);
 }
 
-// The next words of the input, behind their count, in a part of the program's own array. This and `file` stand in `marks` too: in `tester` each
+// The next words of the input, behind their count, in a part of the program's own array. It stands in `marks` too: in `tester` it
 // would need a contract longer than itself.
 fn lesson<'a>(words: &'a mut [u32; 3075], input: &mut Reader<'_>) -> &'a [u32] {
     let part = &mut words[START..START + input.size(MOST)];
@@ -128,19 +126,9 @@ fn clean_lines(page: &mut Page<'_>, refusal: u32, clean: &[u8]) {
     copy_lines(page, refusal, n, &words[..n]);
 }
 
-// The file whose length and bytes are the next of the input.
-fn file<'a>(bytes: &'a mut [u8; BYTES], input: &mut Reader<'_>) -> &'a [u8] {
-    let length = input.size(BYTES);
-    let mut words = [0; WORDS];
-    let part = &mut words[..length.div_ceil(4)];
-    input.fill(part);
-    wire::bytes_of(part, bytes);
-    &bytes[..length]
-}
-
 // A file whose bytes are lent. Bytes and cut stand apart, as `tester::pieces` takes them.
 fn clean_bytes(page: &mut Page<'_>, bytes: &[u8], cut: NonZeroUsize) {
-    let mut array = [0u8; BYTES];
+    let mut array = [0u8; FILE_BYTES];
     let mut clean = Page::new(&mut array);
     let closed = clean_file(bytes, cut, &mut clean);
     let Page { out, at } = clean;
@@ -154,8 +142,8 @@ fn clean_case(input: &mut Reader<'_>, page: &mut Page<'_>) {
     let Some(cut) = NonZeroUsize::new(input.size(4096)) else {
         return;
     };
-    let mut bytes = [0u8; BYTES];
-    clean_bytes(page, file(&mut bytes, input), cut);
+    let mut bytes = [0u8; FILE_BYTES];
+    clean_bytes(page, input.file(&mut bytes), cut);
 }
 
 // A kind is the input's own number: an enum would name each case a second time.

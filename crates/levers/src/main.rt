@@ -9,15 +9,10 @@ use event::Refusal;
 use event::refusal::number;
 use std::convert::Infallible;
 use std::num::NonZeroUsize;
-use tester::{Page, Reader};
+use tester::{FILE_BYTES, Page, Reader};
 
 // What the library is to store over.
 const UNUSED: u32 = 0xDEAD_BEEF;
-
-// A file has no more bytes, and so many words.
-const BYTES: usize = 4112;
-
-const WORDS: usize = 1028;
 
 fn line(page: &mut Page<'_>, refusal: u32, count: usize, words: &[u32]) {
     page.number(refusal);
@@ -80,24 +75,14 @@ fn moves_file(page: &mut Page<'_>, bytes: &[u8], cut: NonZeroUsize, wanted: u32)
     }
 }
 
-// The file whose length and bytes are the next of the input, as in `marks`.
-fn file<'a>(bytes: &'a mut [u8; BYTES], input: &mut Reader<'_>) -> &'a [u8] {
-    let length = input.size(BYTES);
-    let mut words = [0; WORDS];
-    let part = &mut words[..length.div_ceil(4)];
-    input.fill(part);
-    wire::bytes_of(part, bytes);
-    &bytes[..length]
-}
-
 // A file; pieces of no byte are no case.
 fn file_case(input: &mut Reader<'_>, page: &mut Page<'_>) {
     let wanted = input.next();
     let Some(cut) = NonZeroUsize::new(input.size(4096)) else {
         return;
     };
-    let mut bytes = [0u8; BYTES];
-    moves_file(page, file(&mut bytes, input), cut, wanted);
+    let mut bytes = [0u8; FILE_BYTES];
+    moves_file(page, input.file(&mut bytes), cut, wanted);
 }
 
 // A kind is the input's own number: an enum would name each case a second time.

@@ -13,18 +13,13 @@ use marking::Stage;
 use passing::{Counted, Marked};
 use std::convert::Infallible;
 use std::num::NonZeroUsize;
-use tester::{Page, Reader};
+use tester::{FILE_BYTES, Page, Reader};
 
 // A lesson's words start here in the program's own array.
 const START: usize = 3;
 
 // No count of words is larger.
 const MOST: usize = 3072;
-
-// A file has no more bytes, and so many words.
-const BYTES: usize = 4112;
-
-const WORDS: usize = 1028;
 
 // Words and mark stand apart, as the calls take them.
 fn by_library(page: &mut Page<'_>, record: &[u32], words: &[u32], mark: u32) {
@@ -70,7 +65,7 @@ fn by_calls(page: &mut Page<'_>, car: Car, words: &[u32], mark: u32) {
     by_seconds(page, car, words, mark);
 }
 
-// The next words of the input, behind their count, in a part of the program's own array. This and `file` stand in `copies` too: in `tester` each
+// The next words of the input, behind their count, in a part of the program's own array. It stands in `copies` too: in `tester` it
 // would need a contract longer than itself.
 fn lesson<'a>(words: &'a mut [u32; 3075], input: &mut Reader<'_>) -> &'a [u32] {
     let part = &mut words[START..START + input.size(MOST)];
@@ -125,24 +120,14 @@ fn mark_file(page: &mut Page<'_>, bytes: &[u8], cut: NonZeroUsize, mark: u32) {
     }
 }
 
-// The file whose length and bytes are the next of the input.
-fn file<'a>(bytes: &'a mut [u8; BYTES], input: &mut Reader<'_>) -> &'a [u8] {
-    let length = input.size(BYTES);
-    let mut words = [0; WORDS];
-    let part = &mut words[..length.div_ceil(4)];
-    input.fill(part);
-    wire::bytes_of(part, bytes);
-    &bytes[..length]
-}
-
 // A file; pieces of no byte are no case.
 fn file_case(input: &mut Reader<'_>, page: &mut Page<'_>) {
     let mark = input.next();
     let Some(cut) = NonZeroUsize::new(input.size(4096)) else {
         return;
     };
-    let mut bytes = [0u8; BYTES];
-    mark_file(page, file(&mut bytes, input), cut, mark);
+    let mut bytes = [0u8; FILE_BYTES];
+    mark_file(page, input.file(&mut bytes), cut, mark);
 }
 
 // A kind is the input's own number: an enum would name each case a second time.

@@ -12,4 +12,4 @@ pub use fields::{car_at, fields_of};
 pub use input::{fill, float, further, past, read_words, settings_word, sighting, size, word};
 pub use output::{Page, write};
 pub use program::{cases, pieces, run};
-pub use reading::Reader;
+pub use reading::{FILE_BYTES, Reader};
