@@ -16,10 +16,9 @@ of an exercise, without a second passing.
 WANTED is a desired speed in tenths of km/h: decimal digits, at most 4294967295.
 FILE, or standard input, holds 32-bit words, lowest byte first: a settings word
 (D0000000 + mode 1 or 2, + 4 for road signs, + 8 for towing), then event words.
-Printed are the words that reach it from the exercise's last car, at most six,
-one a line in hexadecimal: behind the exercise the car accepts each of them, and
-the lever ends in neutral. Of lists as short it is the one whose words come
-first; no line is printed where the car has that speed set already.
+Printed are at most six words that reach it from the exercise's last car, one a
+line in hexadecimal. The car accepts each, and the lever ends in neutral; no list
+is shorter, and none as short comes before it. With that speed set: no line.
 Or one line, 'refused' and its number and reason: 17 no settings word, 21 a file
 that ends inside a word, 25 cruise off or a lever out of neutral, 26 no list of
 at most six words reaches it. It is printed once the file has ended.
