@@ -17,7 +17,7 @@ WANTED is a desired speed in tenths of km/h: decimal digits, at most 4294967295.
 FILE, or standard input, holds 32-bit words, lowest byte first: a settings word
 (D0000000 + mode 1 or 2, + 4 for road signs, + 8 for towing), then event words.
 Printed are at most six words that reach it from the exercise's last car, one a
-line in hexadecimal. The car accepts each, and the lever ends in neutral; no list
+line in hexadecimal. The car accepts each, the lever ends in neutral; no list
 is shorter, and none as short comes before it. With that speed set: no line.
 Or one line, 'refused' and its number and reason: 17 no settings word, 21 a file
 that ends inside a word, 25 cruise off or a lever out of neutral, 26 no list of
