@@ -1,0 +1,10 @@
+pub mod WayLaws
+pub mod SecondLaws
+pub mod RowLaws
+pub mod EveryLaws
+pub mod StartLaws
+pub mod RunLaws
+pub mod DrivenLaws
+pub mod RoomLaws
+pub mod ReadyBit
+pub mod ShapeLaws
