@@ -1,10 +1,10 @@
 //! The test programs' inputs from a folder of outside vectors. What the folder does not have is kept from the input as
 //! it stands.
 
-use crate::calls::{run_all, Call, Copy, Fields, Goal, Mark, Outcome, Pair, Settings, Start, NAMES, UNUSED};
+use crate::calls::{run_all, Call, Copy, Fields, Goal, Line, Mark, Outcome, Pair, Settings, Start, NAMES, UNUSED};
 use crate::exercise::{bytes_of, last_car, neutral_places, opened, words_of, Given};
 use crate::expected::{split_calls, split_cruise_calls};
-use crate::outside::{listed_passing, Folder, Listed};
+use crate::outside::{listed_passing, Folder, Listed, OutsideRow};
 use crate::paper::{Car, Event, Passing, Sighting};
 use std::fs;
 use std::ops::Range;
@@ -738,7 +738,7 @@ fn chosen_mark(events: &[Listed], chosen: Chosen) -> u32 {
 // ---------------------------------------------------------------- levers
 
 /// Of how many outside cars the call is asked too, for want of room for more.
-const GOALS_ON_CARS: usize = 100;
+const GOALS_ON_CARS: usize = 90;
 
 /// Cars added by hand: what they are beside the table's car, their D, and what is wanted of them.
 const HAND_GOALS: [(&[(&str, u32)], u32, &[u32]); 24] = [
@@ -953,6 +953,277 @@ fn aimed(car: Option<Car>, aim: Aim) -> Option<u32> {
         Aim::Above => Some(car?.ceiling() as u32 + 1),
         Aim::Any => Some(WANTED),
     }
+}
+
+// ---------------------------------------------------------------- rows
+
+/// A row added by hand: what each car of ours is beside the table's, the gaps, the speeds of the first car and the words.
+type HandRow = (&'static [&'static [(&'static str, u32)]], &'static [u32], &'static [u32], &'static [u32]);
+
+/// Cars of a row beside the table's, whose v and D are 500. Those of the first three lines stand.
+const STILL: &[(&str, u32)] = &[("C", 0), ("v", 0), ("D", 0), ("W", 0), ("R", 0)];
+const STILL_NOT_READY: &[(&str, u32)] = &[("C", 0), ("v", 0), ("D", 0), ("W", 0), ("R", 255), ("P", 0)];
+const KEY_OUT: &[(&str, u32)] = &[("key", 0), ("C", 0), ("v", 0), ("D", 0), ("W", 0), ("R", 255), ("P", 0)];
+const AT_216: &[(&str, u32)] = &[("v", 216)];
+const AT_217: &[(&str, u32)] = &[("v", 217)];
+const AT_1000: &[(&str, u32)] = &[("v", 1000), ("D", 1000)];
+const AT_1500: &[(&str, u32)] = &[("v", 1500), ("D", 1500)];
+const AT_5000: &[(&str, u32)] = &[("v", 5000), ("g", 225)];
+const GASSED: &[(&str, u32)] = &[("g", 225)];
+const BRAKED: &[(&str, u32)] = &[("C", 0), ("b", 225)];
+const LIMITED: &[(&str, u32)] = &[("H", 1), ("S", 1), ("Z", 500)];
+const TOWED: &[(&str, u32)] = &[("towing", 1), ("mode", 1)];
+const RADAR_OFF: &[(&str, u32)] = &[("R", 255), ("P", 0)];
+const HELD_UP: &[(&str, u32)] = &[("L", 1), ("B", 500)];
+/// Its gap is 30, so that it is none as a car, and one with 25 as a record.
+const OLD: &[(&str, u32)] = &[("G", 30)];
+const OLD_AT_1000: &[(&str, u32)] = &[("v", 1000), ("D", 1000), ("G", 30)];
+/// A test of the radar is due in the first second.
+const TESTED: &[(&str, u32)] = &[("now", 599)];
+const TESTED_OFF: &[(&str, u32)] = &[("now", 599), ("R", 255), ("P", 0)];
+const LAST_SECOND: &[(&str, u32)] = &[("now", 86_399), ("Q", 86_399)];
+const NO_SECOND: &[(&str, u32)] = &[("now", 86_400), ("Q", 86_400)];
+const NO_D: &[(&str, u32)] = &[("D", 0)];
+
+/// The ways to a stop from some speeds.
+const WAY_500: u32 = 352;
+const WAY_1000: u32 = 1840;
+const WAY_1500: u32 = 4464;
+const WAY_5000: u32 = 55_384;
+
+/// Words that no car of a row takes: ticks and readings, well formed or not; and others.
+const NO_KIND: [u32; 8] =
+    [TICK, 0xA000_0000, 0xA000_0002, 0xAFFF_FFFF, 0x9003_E814, 0x9000_0000, 0x9000_00FF, 0x9FFF_FFFF];
+const NOT_TAKEN_THERE: [u32; 8] =
+    [0, u32::MAX, 0xB000_0000, 0xD000_0006, 0x7000_001E, 0x5000_00E2, 0x4000_0100, 0x2000_0005];
+const GAS: u32 = 0x5000_00E1;
+const KEY_IN: u32 = 0x1000_0001;
+const KEY_ON: u32 = 0x1000_0002;
+const KEY_ON_READY: u32 = 0x1000_0006;
+
+const HAND_ROWS: [HandRow; 80] = [
+    // Gaps: too few, too many, and the greatest.
+    (&[ALONE, ALONE], &[], &[500, 500], &[TICK; 2]),
+    (&[ALONE, ALONE], &[1000], &[500, 500], &[TICK; 2]),
+    (&[ALONE, ALONE], &[1000; 3], &[500, 500], &[TICK; 2]),
+    (&[ALONE], &[1_000_000], &[500, 500], &[TICK]),
+    (&[ALONE], &[1_000_001], &[500, 500], &[TICK]),
+    (&[ALONE, ALONE], &[1_000_000, u32::MAX], &[500, 500], &[TICK; 2]),
+    (&[ALONE, ALONE], &[1 << 31, 1_000_000], &[500, 500], &[TICK; 2]),
+    (&[], &[], &[500, 500], &[TICK]),
+    // Start speeds: none, the greatest, and others that have a good one in their lower bits.
+    (&[ALONE], &[1000], &[], &[TICK; 2]),
+    (&[ALONE], &[1000], &[5000], &[TICK]),
+    (&[ALONE], &[1000], &[5001, 5000], &[TICK]),
+    (&[ALONE], &[1000], &[500 + (1 << 13), 500], &[TICK]),
+    (&[ALONE], &[1000], &[500 + (1 << 16), 500], &[TICK]),
+    (&[ALONE], &[1000], &[u32::MAX, 500], &[TICK]),
+    // Later ones: above 5000, and slowing by 216 and by more.
+    (&[ALONE, ALONE], &[1000; 2], &[0, 5000, 5001, 5000], &[TICK; 6]),
+    (&[ALONE], &[1000], &[500, 500 + (1 << 13)], &[TICK]),
+    (&[ALONE], &[1000], &[500, 500, 500 + (1 << 16)], &[TICK; 2]),
+    (&[ALONE], &[1000], &[500, (1 << 31) + 500], &[TICK]),
+    (&[ALONE], &[1000], &[0, u32::MAX], &[TICK]),
+    (&[ALONE], &[1000], &[5000, 4784, 4567], &[TICK; 2]),
+    (&[ALONE], &[1000], &[500, 284, 68, 0, 216, 0, 217, 1, 217, 0], &[TICK; 9]),
+    (&[ALONE], &[1000], &[1000, 0], &[TICK]),
+    // A start as close as can be, and closer by one.
+    (&[ALONE], &[WAY_500], &[0, 0], &[TICK]),
+    (&[ALONE], &[WAY_500 - 1], &[0, 0], &[TICK]),
+    (&[AT_1000, AT_1500], &[WAY_1000 - WAY_500, WAY_1500 - WAY_1000], &[500, 284, 68], &[GAS; 4]),
+    (&[AT_1000, AT_1500], &[WAY_1000 - WAY_500, WAY_1500 - WAY_1000 - 1], &[500, 284, 68], &[GAS; 4]),
+    (&[AT_1000, AT_1500], &[WAY_1000 - WAY_500 - 1, WAY_1500 - WAY_1000], &[500, 284, 68], &[GAS; 4]),
+    (&[AT_5000], &[WAY_5000], &[0, 0, 0], &[TICK; 2]),
+    (&[AT_5000], &[WAY_5000 - 1], &[0, 0, 0], &[TICK; 2]),
+    (&[AT_216], &[0], &[0, 0], &[TICK]),
+    (&[AT_217], &[1], &[0, 0], &[TICK]),
+    (&[AT_217], &[0], &[0, 0], &[TICK]),
+    (&[ALONE, ALONE], &[0, 0], &[5000, 5000], &[TICK; 2]),
+    // Several reasons: 27 before 28, and 28 before 16 and 29.
+    (&[AT_1000, ALONE], &[0, 1_000_001], &[0, 0], &[TICK; 2]),
+    (&[NO_SECOND, AT_1000], &[1000, 0], &[500, 5001], &[TICK; 2]),
+    (&[NO_D, AT_1000], &[1_000_001, 0], &[500, 500], &[TICK; 2]),
+    // Clocks: at the end in front, behind and in all, with no second to be run, and a second or two before it.
+    (&[NO_SECOND, ALONE, ALONE], &[1000; 3], &[500, 500], &[TICK; 3]),
+    (&[ALONE, ALONE, NO_SECOND], &[1000; 3], &[500, 500], &[TICK; 3]),
+    (&[NO_SECOND, NO_SECOND], &[1000; 2], &[500, 500], &[TICK; 2]),
+    (&[NO_SECOND, NO_SECOND], &[1000; 2], &[500], &[TICK; 2]),
+    (&[NO_SECOND, NO_SECOND], &[1000; 2], &[500, 500], &[TICK]),
+    (&[ALONE, LAST_SECOND, ALONE], &[1000; 3], &[500, 600, 700], &[TICK; 6]),
+    (&[LAST_SECOND, LAST_SECOND], &[1000; 2], &[500, 600], &[TICK; 4]),
+    // 16 before 29; 29 a second before 16.
+    (&[ALONE, NO_SECOND], &[1000; 2], &[500, 283], &[TICK; 2]),
+    (&[LAST_SECOND, ALONE], &[1000; 2], &[500, 500, 5001], &[TICK; 4]),
+    (&[LAST_SECOND, ALONE], &[1000; 2], &[500, 283, 283], &[TICK; 4]),
+    // Seconds that are short of words or without a speed are not run, nor is their speed looked at.
+    (&[ALONE, ALONE, ALONE], &[1000; 3], &[500; 3], &[TICK; 5]),
+    (&[ALONE, ALONE, ALONE], &[1000; 3], &[500; 2], &[TICK; 6]),
+    (&[ALONE, ALONE], &[1000; 2], &[500; 3], &[]),
+    (&[ALONE, ALONE], &[1000; 2], &[500, 0], &[TICK]),
+    (&[ALONE, LAST_SECOND], &[1000; 2], &[500, 500, 0], &[TICK; 3]),
+    // The gap 30: refused with 18, 27 and 28, and with 16 and 29 in the first second; then after a second, or not.
+    (&[OLD, NO_D], &[1000; 2], &[500, 500], &[TICK; 2]),
+    (&[OLD, ALONE], &[1000], &[500, 500], &[TICK; 2]),
+    (&[ALONE, OLD_AT_1000], &[1000, 0], &[500, 500], &[TICK; 2]),
+    (&[OLD, NO_SECOND], &[1000; 2], &[500, 500], &[TICK; 2]),
+    (&[OLD, ALONE], &[1000; 2], &[500, 283], &[TICK; 2]),
+    (&[ALONE, OLD], &[1000; 2], &[500, 500, 283], &[TICK; 4]),
+    (&[OLD, LAST_SECOND], &[1000; 2], &[500, 500, 500], &[TICK; 4]),
+    (&[OLD, OLD], &[1000; 2], &[500], &[TICK; 4]),
+    (&[OLD, ALONE], &[1000; 2], &[500, 500], &[TICK]),
+    (&[OLD, ALONE], &[1000; 2], &[500, 500], &[0x7000_001E; 2]),
+    // A last car that is not good, in a row of its own and where much else is amiss.
+    (&[ALONE, NO_D], &[1000; 2], &[500, 500], &[TICK; 2]),
+    (&[NO_SECOND, NO_D], &[0, u32::MAX, 0], &[], &[]),
+    // Words that no car takes.
+    (&[ALONE], &[1000], &[500; 9], &NO_KIND),
+    (&[KEY_OUT], &[1000], &[500; 9], &NO_KIND),
+    (&[RADAR_OFF], &[1000], &[500; 9], &NO_KIND),
+    (&[ALONE], &[1000], &[500; 9], &NOT_TAKEN_THERE),
+    // The key, so that the radar is ready or not before the tick; of a car that moves it stays.
+    (
+        &[STILL, STILL],
+        &[100; 2],
+        &[0; 6],
+        &[KEY_IN, KEY_IN, KEY_ON, KEY_ON_READY, TICK, TICK, KEY_IN, 0, KEY_ON_READY, KEY_ON],
+    ),
+    (
+        &[KEY_OUT, STILL_NOT_READY],
+        &[100; 2],
+        &[0; 5],
+        &[KEY_IN, KEY_IN, KEY_ON_READY, 0x1000_0005, TICK, KEY_ON_READY, TICK, TICK],
+    ),
+    (&[AT_216, ALONE], &[100, 500], &[500; 3], &[KEY_IN, KEY_IN, GAS, KEY_ON]),
+    // A test of the radar, which stays as it is; beside it a word that turns it.
+    (&[TESTED, TESTED_OFF], &[500; 2], &[500; 3], &[TICK; 4]),
+    (&[STILL_NOT_READY, TESTED], &[500; 2], &[500; 3], &[KEY_IN, 0x8000_0514, KEY_ON_READY, 0x2000_0002]),
+    // A lever held for some seconds, the pedals, the limiter, a gap, signs and the ceiling with towing.
+    (
+        &[HELD_UP, TOWED],
+        &[2000; 2],
+        &[600; 6],
+        &[TICK, 0x2000_0002, TICK, TICK, 0x2000_0000, TICK, 0x3000_0001, 0x2000_0000, 0x7000_0019, GAS],
+    ),
+    (
+        &[LIMITED, BRAKED],
+        &[100; 2],
+        &[600, 600, 400, 400],
+        &[GAS, 0x4000_0000, 0x5000_005A, GAS, 0x5000_0000, 0x8000_0320],
+    ),
+    // Readings of all sorts of gaps; with the key out and with the radar not ready there are none.
+    (
+        &[ALONE, GASSED, ALONE, ALONE, ALONE, ALONE, ALONE],
+        &[0, 35, 36, 71, 72, 254 * 36, 255 * 36 - 1],
+        &[500, 500],
+        &[TICK; 7],
+    ),
+    (
+        &[ALONE, ALONE, RADAR_OFF, KEY_OUT, GASSED, STILL],
+        &[255 * 36, 254 * 36 - 1, 36, 1000, 360, 37],
+        &[284, 500, 284],
+        &[TICK; 12],
+    ),
+    // Gaps above the greatest one of a start.
+    (&[KEY_OUT, STILL], &[1_000_000, 999_999], &[0, 5000, 5000], &[TICK; 4]),
+    (&[BRAKED, KEY_OUT], &[1_000_000; 2], &[5000; 4], &[TICK; 6]),
+    (&[AT_5000, ALONE], &[1000, 1_000_000], &[5000; 3], &[TICK; 4]),
+    // Seven cars that drive on until they have to brake.
+    (&[AT_5000; 7], &[0, 1, 35, 36, 0, 215, 216], &[5000, 5000, 4784, 4784, 4568], &[TICK; 28]),
+];
+
+/// Of the rows added by hand those whose number, from 0, is a multiple of this are run by the call on cars too, for want of
+/// room for more.
+const CAR_ROWS_BETWEEN: usize = 5;
+
+/// The outside rows, by the library's function where each car is given by a record, and by the call on cars; records that
+/// are too short or too many; rows added by hand, by records and some by cars; rows that brake until all cars stand.
+pub fn rows(folder: &Folder) -> Result<Vec<u8>, String> {
+    let Some(outside) = folder.rows()? else {
+        return stdin("rows");
+    };
+    let mut words: Vec<u32> = outside.iter().filter_map(OutsideRow::lent).flat_map(|row| lent_row(&row)).collect();
+    words.extend(outside.iter().flat_map(|row| car_row(&row.on_cars())));
+    words.extend(wrongly_lent_rows()?);
+    for (number, row) in HAND_ROWS.iter().enumerate() {
+        let row = hand_row(row)?;
+        words.extend(lent_row(&recorded(&row)?));
+        words.extend(if number % CAR_ROWS_BETWEEN == 0 { car_row(&row) } else { Vec::new() });
+    }
+    let [slow, fast] = braking_rows()?;
+    words.extend(lent_row(&recorded(&slow)?));
+    words.extend(car_row(&fast));
+    words.push(0);
+    Ok(bytes_of(&words))
+}
+
+/// By the library's function.
+fn lent_row(row: &Line<Vec<u32>>) -> Vec<u32> {
+    [&[1, row.cars.len() as u32], &row.cars[..], &row_lists(row)].concat()
+}
+
+/// By the call on cars, good or not.
+fn car_row(row: &Line<Vec<Fields>>) -> Vec<u32> {
+    let cars: Vec<u32> = row.cars.iter().flat_map(|car| car.0).collect();
+    [&[2, row.cars.len() as u32], &cars[..], &row_lists(row)].concat()
+}
+
+fn row_lists<Cars>(row: &Line<Cars>) -> Vec<u32> {
+    [&row.gaps, &row.speeds, &row.words]
+        .into_iter()
+        .flat_map(|list| [&[list.len() as u32], &list[..]].concat())
+        .collect()
+}
+
+/// The row with its cars as records.
+fn recorded(row: &Line<Vec<Fields>>) -> Result<Line<Vec<u32>>, String> {
+    let records: Option<Vec<[u32; 12]>> = row.cars.iter().map(Fields::record).collect();
+    let cars = records.ok_or("rows: a car that no record shows")?.concat();
+    let Line { gaps, speeds, words, .. } = row.clone();
+    Ok(Line { cars, gaps, speeds, words })
+}
+
+fn hand_row(&(cars, gaps, speeds, words): &HandRow) -> Result<Line<Vec<Fields>>, String> {
+    let cars: Result<Vec<Fields>, String> = cars.iter().map(|changes| changed(TABLE_CAR, changes)).collect();
+    Ok(Line { cars: cars?, gaps: gaps.to_vec(), speeds: speeds.to_vec(), words: words.to_vec() })
+}
+
+/// Records of 0, 11, 13 and 24 words, of 24 with one that is not accepted in front or behind, of eight cars, and of nine
+/// of which one is not accepted.
+fn wrongly_lent_rows() -> Result<Vec<u32>, String> {
+    let record = |fields: Fields| fields.record().ok_or("rows: a car that no record shows");
+    let (good, bad) = (record(TABLE_CAR)?, record(changed(TABLE_CAR, NO_D)?)?);
+    let cars = |count: usize, last: &[u32]| [&good.repeat(count), last].concat();
+    let lent = [
+        cars(0, &[]),
+        cars(0, &good[..11]),
+        cars(1, &[UNUSED]),
+        cars(2, &[]),
+        cars(1, &bad),
+        [bad, good].concat(),
+        cars(8, &[]),
+        cars(8, &bad),
+    ];
+    let row = |cars: Vec<u32>| {
+        let count = cars.len() / 12;
+        Line { cars, gaps: vec![1000; count], speeds: vec![500; 2], words: vec![TICK; count] }
+    };
+    Ok(lent.into_iter().flat_map(|cars| lent_row(&row(cars))).collect())
+}
+
+/// Seven cars without a gap, behind a first one that brakes as hard as can be from so many seconds on until it stands: from
+/// 500, with cars of all sorts; and from 5000, with the gas down.
+fn braking_rows() -> Result<[Line<Vec<Fields>>; 2], String> {
+    let row = |cars: &[&[(&str, u32)]], start: u32, steady: usize, after: usize| {
+        let mut speeds = vec![start; 1 + steady];
+        while let Some(&speed @ 1..) = speeds.last() {
+            speeds.push(speed.saturating_sub(216));
+        }
+        speeds.resize(speeds.len() + after, 0);
+        let words = vec![GAS; cars.len() * (speeds.len() - 1)];
+        let cars: Result<Vec<Fields>, String> = cars.iter().map(|changes| changed(TABLE_CAR, changes)).collect();
+        Ok::<_, String>(Line { cars: cars?, gaps: vec![0; 7], speeds, words })
+    };
+    Ok([row(&[ALONE, GASSED, BRAKED, TOWED, LIMITED, RADAR_OFF, HELD_UP], 500, 2, 2)?, row(&[AT_5000; 7], 5000, 3, 2)?])
 }
 
 // ---------------------------------------------------------------- alikes

@@ -1163,6 +1163,146 @@ impl Car {
     }
 }
 
+// ---------------------------------------------------------------- A row of cars
+
+/// A metre, in the unit of a gap.
+const METRE: i64 = 36;
+/// The most that a car slows by in a second.
+const FULL_BRAKE: i64 = 216;
+
+/// F(v), the way to a stop.
+pub fn way_to_stop(speed: i64) -> i64 {
+    if speed == 0 {
+        return 0;
+    }
+    let next = braked_hard(speed);
+    next + way_to_stop(next)
+}
+
+/// max(0, v - 216)
+fn braked_hard(speed: i64) -> i64 {
+    (speed - FULL_BRAKE).max(0)
+}
+
+/// A row of cars. Its first car is a list of speeds, which the row is handed when it runs.
+#[derive(Clone, PartialEq, Eq, Debug)]
+pub struct Row {
+    /// The cars of ours, front first.
+    pub cars: Vec<Car>,
+    /// The gap before each of them, with a sign.
+    pub gaps: Vec<i64>,
+    /// The seconds run.
+    pub seconds: usize,
+    /// How often the assistant has braked a car of ours.
+    pub assisted: usize,
+}
+
+impl Row {
+    pub fn new(cars: &[Car], gaps: &[u32]) -> Row {
+        Row { cars: cars.to_vec(), gaps: gaps.iter().map(|&gap| i64::from(gap)).collect(), seconds: 0, assisted: 0 }
+    }
+
+    /// Runs every second that has a speed of the first car and a word for each car of ours. A refusal leaves the row as
+    /// the last whole second left it.
+    pub fn run(&mut self, speeds: &[u32], words: &[u32]) -> Result<(), u32> {
+        self.check_start(speeds)?;
+        for (first, words) in speeds.windows(2).zip(words.chunks_exact(self.cars.len())) {
+            self.second(first[0], first[1], words)?;
+        }
+        Ok(())
+    }
+
+    /// 27 and 28, before anything moves.
+    pub fn check_start(&self, speeds: &[u32]) -> Result<(), u32> {
+        // 27: fewer than 2 or more than 8 cars, the first one among them; not one gap per car of ours; a gap outside 0 to
+        // 1,000,000; a start speed of the first car missing or above 5000.
+        let cars = 1 + self.cars.len();
+        if !(2..=8).contains(&cars)
+            || self.gaps.len() != self.cars.len()
+            || !self.gaps.iter().all(|gap| (0..=1_000_000).contains(gap))
+        {
+            return Err(27);
+        }
+        let first = speeds.first().filter(|&&speed| speed <= 5000).ok_or(27u32)?;
+        // 28: a start closer than that.
+        if !self.is_apart(*first) {
+            return Err(28);
+        }
+        Ok(())
+    }
+
+    /// Is each gap plus F(ahead) at least F(behind), with the first car at this speed?
+    pub fn is_apart(&self, first: u32) -> bool {
+        let mut ahead = i64::from(first);
+        self.cars.iter().zip(&self.gaps).all(|(car, gap)| {
+            let behind = i64::from(car.speed);
+            let apart = gap + way_to_stop(ahead) >= way_to_stop(behind);
+            ahead = behind;
+            apart
+        })
+    }
+
+    /// A second to be run, in which the first car goes from one speed to another.
+    pub fn second(&mut self, from: u32, to: u32, words: &[u32]) -> Result<(), u32> {
+        // 16: any car's clock at its end.
+        if self.cars.iter().any(|car| car.now == CLOCK_END) {
+            return Err(16);
+        }
+        // 29: the first car above 5000 or slowing by more than 216.
+        let [from, to] = [from, to].map(i64::from);
+        if to > 5000 || from - to > FULL_BRAKE {
+            return Err(29);
+        }
+        // The speed ahead at the second's start and at its end.
+        let (mut ahead, mut ahead_next) = (from, to);
+        for ((car, gap), &word) in self.cars.iter_mut().zip(&mut self.gaps).zip(words) {
+            let (next, assisted) = car.in_row(*gap, ahead, word);
+            (ahead, *gap) = (i64::from(car.speed), *gap + ahead_next - i64::from(next.speed));
+            ahead_next = i64::from(next.speed);
+            *car = next;
+            self.assisted += usize::from(assisted);
+        }
+        self.seconds += 1;
+        Ok(())
+    }
+}
+
+impl Car {
+    /// The reading of a car of ours, if its key is on and radar ready: the gap in whole metres, rounded down, 0 as 1, 255 or
+    /// more as 0.
+    pub fn row_reading(&self, gap: i64, ahead: i64) -> Option<Reading> {
+        let range = match gap / METRE {
+            0 => 1,
+            255.. => 0,
+            metres => metres as u32,
+        };
+        (self.key == Key::On && self.ready).then_some(Reading { range, ahead: ahead as u32 })
+    }
+
+    /// A car of ours after a second of its row, and whether the assistant braked it. The gap and the speed ahead are those
+    /// at the second's start.
+    fn in_row(&self, gap: i64, ahead: i64, word: u32) -> (Car, bool) {
+        let mut car = *self;
+        if let Some(reading) = car.row_reading(gap, ahead) {
+            car = car.drive(reading.word()).expect("a reading that is accepted");
+        }
+        // One event word; ticks and readings are no such kind.
+        if !matches!(word >> 28, 9 | 10) {
+            car = car.drive(word).unwrap_or(car);
+        }
+        // A tick with the ready bit that there is now.
+        let tick = Event::Tick { ready: car.ready };
+        let mut next = car.drive(tick.word()).expect("a tick that is accepted");
+        // The emergency assistant.
+        let speed = i64::from(next.speed);
+        let assisted = gap + way_to_stop(ahead) < speed + way_to_stop(speed);
+        if assisted {
+            next.speed = braked_hard(i64::from(self.speed)) as i32;
+        }
+        (next, assisted)
+    }
+}
+
 // ---------------------------------------------------------------- The cab, alike, and the program
 
 /// What the program and the library show of a car.

@@ -2,15 +2,15 @@
 -- Assumes nothing.
 use Rattle.std.specs.Prelude.{Bool, true, false, ◌&&◌, ◌||◌, not, List, [], ◌∷◌, ◌≡◌, refl, ℕ, suc, ◌+◌, ◌≤◌, ◌<◌, eqb, leb, ltb, length, drop, ℤ, pos, ◌+ℤ◌, ◌≤ℤ◌, int_le, int_lt}
 use Rattle.std.proofs.Common.{sym, ap, ◌∙◌, subst, arith, leb-true, ltb-false, ltb-true, eqb-true, eq-eqb}
-use Rattle.std.proofs.lemmas.Bool.{not-false}
+use Rattle.std.proofs.lemmas.Bool.{not-false, lt-leb}
 use Rattle.std.proofs.lemmas.Int.{ints}
 use Rattle.std.proofs.lemmas.List.{length-map}
 use Rattle.kit.specs.Bounds.{speed_ceiling, lesson_length}
-use Rattle.kit.specs.Pick.{pick_true, pick_case, passed, and_l, and_r, and_both, not_is, not_of_true, no}
+use Rattle.kit.specs.Pick.{pick, pick_true, pick_false, pick_case, either, passed, and_l, and_r, and_left, and_right, and_both, not_is, not_of_true, not_of_false, no}
 use Rattle.car.specs.declared.Car.{Car}
 use Rattle.car.specs.Good.{good_of}
 use Rattle.car.proofs.GoodLaws.{good}
-use Rattle.row.specs.Row.{Follower, Row, next_car, next_gap, next_follower, second_of, every, next_row, later_words, short, clock_ends, leaps, second_refusal, runs, rows_of, last_row, cars_of, gaps_of, ran_to, ran_of, all_good, gaps_in, start_in, row_fits, followers, start_speed, start_row, too_close, start_refusal, row_run}
+use Rattle.row.specs.Row.{Follower, Row, next_car, next_gap, next_follower, second_of, every, next_row, later_words, short, clock_ends, leaps, second_refusal, runs, rows_of, last_row, cars_of, gaps_of, ran_to, ran_of, all_good, gaps_in, start_in, row_fits, followers, start_speed, start_row, too_close, start_refusal, not_run, row_run}
 use Rattle.row.specs.RowPromise.{Sound, AllSound, SoundRow, Onward, AllOnward, Seconds, RowPromise, RunPromise, NoneBelow, RanSound, ResultPromise}
 use Rattle.row.specs.RowShape.{Ready}
 use Rattle.row.specs.Way.{way}
@@ -203,3 +203,20 @@ result_promise cars gaps speeds words z =
     rw (pick_true (eqb (start_refusal cars gaps speeds) 0) (ran_of (start_row cars gaps speeds) words (drop 1 speeds)) _ (eq-eqb _ _ z))
     (subst (λ (k : ℕ). RanSound k (ran_of (start_row cars gaps speeds) words (drop 1 speeds))) n
     (ran_sound (start_row cars gaps speeds) words (drop 1 speeds) (start_row_sound cars gaps speeds z)))
+
+-- the cars afterwards are good, run or not
+pub run_good : (cars : List Car) (gaps : List ℤ) (speeds words : List ℕ) → all_good cars ≡ true → all_good (row_run cars gaps speeds words).cars ≡ true
+unfolding row_run not_run
+run_good cars gaps speeds words g =
+    either (eqb (start_refusal cars gaps speeds) 0)
+    (λ t. (result_promise cars gaps speeds words (eqb-true _ _ t)).good)
+    (λ t. rw (pick_false (eqb (start_refusal cars gaps speeds) 0) (ran_of (start_row cars gaps speeds) words (drop 1 speeds)) (not_run cars gaps (start_refusal cars gaps speeds)) t) g)
+
+-- more cars than seven of ours
+pub wide_row : (cars : List Car) (gaps : List ℤ) (speeds words : List ℕ) → all_good cars ≡ true → 8 ≤ length cars → row_run cars gaps speeds words ≡ not_run cars gaps 27
+unfolding row_run start_refusal row_fits pick
+wide_row cars gaps speeds words g h =
+    let t : leb (1 + length cars) 8 ≡ false = lt-leb (1 + length cars) 8 (omega arith) in
+    let f : row_fits cars gaps speeds ≡ false = and_left _ _ (and_left _ _ (and_left _ _ (and_right _ _ t))) in
+    let z : start_refusal cars gaps speeds ≡ 27 = pick_false _ 18 _ (not_of_true _ g) ∙ pick_true _ 27 _ (not_of_false _ f) in
+    rw z refl

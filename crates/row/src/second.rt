@@ -1,10 +1,9 @@
 // A second of a row (document 02, §14): of one car of ours, and of all of them, one behind the other.
-ghost use Rattle.std.specs.Prelude.{◌≡◌, true, ◌≤◌, length, map, pos, ◌+ℤ◌, ◌≤ℤ◌};
+ghost use Rattle.std.specs.Prelude.{◌≡◌, true, ◌≤◌, length, pos};
 ghost use Rattle.kit.specs.Bounds.{speed_ceiling};
-ghost use Rattle.event.specs.Words.{kind_of};
 ghost use Rattle.car.specs.Good.{good_of};
 ghost use Rattle.car.specs.Lesson.{driven};
-ghost use Rattle.row.specs.Row.{metres_of, shown, no_such_kind, present_tick, unassisted, assisted, next_car, second_of};
+ghost use Rattle.row.specs.Row.{shown, no_such_kind, present_tick, unassisted, assisted, next_car, second_of};
 ghost use Rattle.row.specs.RowShape.{reading_word, line, Steady};
 
 use crate::way::{slowed, way};

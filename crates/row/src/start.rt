@@ -1,5 +1,5 @@
 // Whether a row may start (document 02, §14): 18, 27 and 28, before anything moves.
-ghost use Rattle.std.specs.Prelude.{◌≡◌, true, ◌≤◌, length, map, pos, ◌+ℤ◌, List};
+ghost use Rattle.std.specs.Prelude.{◌≡◌, true, ◌≤◌, map, pos};
 ghost use Rattle.kit.specs.Bounds.{speed_ceiling};
 ghost use Rattle.event.specs.Refusal.{number};
 ghost use Rattle.row.specs.Row.{all_good, gaps_in, start_in, row_fits, start_speed, too_close, start_refusal};

@@ -1,0 +1,2 @@
+pub mod RecordRow
+pub mod RecordRowShape
