@@ -1,6 +1,6 @@
 //! Cars as their fields, good or not, and calls on them by the model: what the test programs and the outside vectors hold.
 
-use crate::paper::{Car, Lesson, Moves, Reading, Row, Sighting};
+use crate::paper::{Car, Lesson, Moves, Reading, Sighting};
 use crate::random::{Field, FIELDS};
 use std::collections::BTreeMap;
 
@@ -335,68 +335,6 @@ impl Reached {
     pub fn desired(&self) -> Vec<u32> {
         self.0.iter().flatten().map(|(&desired, _)| desired).collect()
     }
-}
-
-// ---------------------------------------------------------------- Rows
-
-/// A row: cars of ours, front first, as the words of their records or as fields, good or not; the gaps; the speeds of the
-/// first car; and the words.
-#[derive(Clone, PartialEq, Eq)]
-pub struct Line<Cars> {
-    pub cars: Cars,
-    pub gaps: Vec<u32>,
-    pub speeds: Vec<u32>,
-    pub words: Vec<u32>,
-}
-
-impl<Cars> Line<Cars> {
-    /// The refusal, and the row afterwards. 18: a car of ours is not good; there is no row.
-    fn row(&self, cars: Option<Vec<Car>>) -> (u32, Option<Row>) {
-        let Some(cars) = cars else {
-            return (18, None);
-        };
-        let mut row = Row::new(&cars, &self.gaps);
-        (row.run(&self.speeds, &self.words).err().unwrap_or(0), Some(row))
-    }
-}
-
-impl Line<Vec<u32>> {
-    /// The cars of the records; none if one is not accepted or the last one is short.
-    pub fn accepted(&self) -> Option<Vec<Car>> {
-        self.cars.chunks(12).map(Car::read).collect()
-    }
-
-    /// Runs the row over the records and the gaps. Gives the refusal and the seconds run. Records are kept as they are by
-    /// a call that is refused before a second was run.
-    pub fn run(&mut self) -> (u32, usize) {
-        let (refusal, row) = self.row(self.accepted());
-        let Some(Row { cars, gaps, seconds, .. }) = row else {
-            return (refusal, 0);
-        };
-        self.gaps = as_numbers(&gaps);
-        if refusal == 0 || seconds > 0 {
-            self.cars = cars.iter().flat_map(Car::write).collect();
-        }
-        (refusal, seconds)
-    }
-}
-
-impl Line<Vec<Fields>> {
-    /// Runs the row over the cars and the gaps. Gives the refusal and the seconds run.
-    pub fn run(&mut self) -> (u32, usize) {
-        let (refusal, row) = self.row(self.cars.iter().map(Fields::car).collect());
-        let Some(Row { cars, gaps, seconds, .. }) = row else {
-            return (refusal, 0);
-        };
-        self.gaps = as_numbers(&gaps);
-        self.cars = cars.iter().map(Fields::of).collect();
-        (refusal, seconds)
-    }
-}
-
-/// Gaps, none of them below zero.
-fn as_numbers(gaps: &[i64]) -> Vec<u32> {
-    gaps.iter().map(|&gap| gap.try_into().expect("a gap of 32 bits that is not below zero")).collect()
 }
 
 // ---------------------------------------------------------------- Pairs

@@ -1,7 +1,7 @@
 //! The comparison of the library with the model, case by case. Each case grows from one 64-bit seed, so that it can
 //! be run again alone.
 
-use crate::calls::{converted, Line, Reached};
+use crate::calls::{converted, Reached};
 use crate::library::{self, GUARD};
 use crate::paper::{Car, Lesson, Moves, Passing, Sighting, CLOCK_END, MOST_MOVES};
 use crate::random::{self, Driver, Random, FIELDS};
@@ -24,10 +24,9 @@ pub enum Kind {
     Sighting,
     See,
     Moves,
-    Row,
 }
 
-const KINDS: [(Kind, &str); 13] = [
+const KINDS: [(Kind, &str); 12] = [
     (Kind::Fresh, "fresh"),
     (Kind::Walk, "walk"),
     (Kind::Lesson, "lesson"),
@@ -40,11 +39,10 @@ const KINDS: [(Kind, &str); 13] = [
     (Kind::Sighting, "sighting"),
     (Kind::See, "see"),
     (Kind::Moves, "moves"),
-    (Kind::Row, "row"),
 ];
 
 /// One round of cases; a run is many rounds.
-const ROUND: [Kind; 18] = [
+const ROUND: [Kind; 17] = [
     Kind::Fresh,
     Kind::Walk,
     Kind::Lesson,
@@ -57,7 +55,6 @@ const ROUND: [Kind; 18] = [
     Kind::Sighting,
     Kind::See,
     Kind::Moves,
-    Kind::Row,
     Kind::Walk,
     Kind::Lesson,
     Kind::Damaged,
@@ -126,7 +123,6 @@ fn run_case(kind: Kind, seed: u64, tally: &mut Tally, shown: bool) -> Result<(),
         Kind::Sighting => sighting_case(bench, random),
         Kind::See => see_case(bench, random),
         Kind::Moves => moves_case(bench, random),
-        Kind::Row => row_case(bench, random),
     }
 }
 
@@ -372,20 +368,6 @@ fn moves_case(bench: &mut Bench, random: &mut Random) -> Result<(), Difference> 
             let wanted = random::wanted(random, &reached.desired());
             bench.moves(&reached, &record, wanted)?;
         }
-    }
-    Ok(())
-}
-
-/// Rows of no car up to more than there may be, often with a part that is spoilt, whole and cut in two.
-fn row_case(bench: &mut Bench, random: &mut Random) -> Result<(), Difference> {
-    for _ in 0..10 {
-        let count = if random.once_in(10) { random.pick(&[0, 8, 9]) } else { 1 + random.below(7) as usize };
-        let seconds = random.pick(&[0, 1, 2, 5, 10, 30]);
-        let mut row = random::row(random, count, seconds);
-        random::spoil_row(random, &mut row);
-        let seconds = bench.row(random, &row)?;
-        let cut = random.below(seconds as u32 + 1) as usize;
-        bench.row_halves(&row, cut)?;
     }
     Ok(())
 }
@@ -1044,68 +1026,6 @@ impl Bench<'_> {
         Ok(())
     }
 
-    /// A row over records, accepted or not. Gives the seconds run.
-    fn row(&mut self, random: &mut Random, row: &Line<Vec<u32>>) -> Result<usize, Difference> {
-        let mut after = row.clone();
-        let (refusal, seconds) = after.run();
-        let lists = [&row.cars, &row.gaps, &row.speeds, &row.words];
-        let [mut records, mut gaps, speeds, words] = lists.map(|list| Buffer::holding(random, list));
-        records.expected_mut().copy_from_slice(&after.cars);
-        gaps.expected_mut().copy_from_slice(&after.gaps);
-        let (given, out) = library::row(records.lend_mut(), gaps.lend_mut(), speeds.lend(), words.lend());
-        let guard = GUARD as usize;
-        let has_old_gap = |cars: Vec<Car>| cars.iter().flat_map(Car::write).collect::<Vec<u32>>() != row.cars;
-        self.tally.count(Call::Row, refusal);
-        self.tally.old_gaps[Call::Row as usize] += u64::from(row.accepted().is_some_and(has_old_gap));
-        self.tally.row_seconds += seconds as u64;
-        self.judge(
-            given == refusal
-                && out == [guard, seconds, guard]
-                && [&records, &gaps, &speeds, &words].iter().all(|buffer| buffer.is_as_expected()),
-            || format!("cruise_row of {}", row_text(row)),
-            || format!("{refusal} seconds {seconds} gaps {:?} records {}", after.gaps, hex(&after.cars)),
-            || {
-                let lent = [&speeds, &words].iter().all(|buffer| buffer.is_as_expected());
-                format!(
-                    "{given} seconds {}{} gaps {} records {}{}",
-                    out[1],
-                    complaint(out[0] == guard && out[2] == guard, " GUARDS OVERWRITTEN"),
-                    found(&gaps),
-                    found(&records),
-                    complaint(lent, " CALLER'S SPEEDS OR WORDS CHANGED"),
-                )
-            },
-        )?;
-        Ok(seconds)
-    }
-
-    /// Of the library alone: a row in two parts, the second from the records and gaps that the first leaves, ends as the
-    /// whole one does; but where the first part leaves a gap that no row starts with.
-    fn row_halves(&mut self, row: &Line<Vec<u32>>, cut: usize) -> Result<(), Difference> {
-        let count = row.gaps.len();
-        let whole = row_run(row);
-        let first = Line {
-            speeds: row.speeds[..row.speeds.len().min(cut + 1)].to_vec(),
-            words: row.words[..row.words.len().min(cut * count)].to_vec(),
-            ..row.clone()
-        };
-        let (refusal, seconds, left) = row_run(&first);
-        if refusal != 0 || seconds != cut || left.gaps.iter().any(|&gap| gap > 1_000_000) {
-            return Ok(());
-        }
-        let second = Line { speeds: row.speeds[cut..].to_vec(), words: row.words[cut * count..].to_vec(), ..left };
-        let (refusal, seconds, mut behind) = row_run(&second);
-        let joined = (refusal, cut + seconds);
-        // A row that is refused before its first second keeps the gap 30.
-        behind.cars = if joined.1 > 0 { behind.cars } else { whole.2.cars.clone() };
-        self.judge(
-            joined == (whole.0, whole.1) && (&behind.cars, &behind.gaps) == (&whole.2.cars, &whole.2.gaps),
-            || format!("cruise_row in two parts, cut behind {cut} seconds, of {}", row_text(row)),
-            || format!("{} seconds {}, as the whole row, {}", whole.0, whole.1, row_text(&whole.2)),
-            || format!("{} seconds {}, {}", joined.0, joined.1, row_text(&behind)),
-        )
-    }
-
     /// Of the library alone: it accepts each of these words one after another, and then has the wanted D and the up-down
     /// lever in neutral.
     fn moves_driven(&mut self, record: &[u32], wanted: u32, words: &[u32]) -> Result<(), Difference> {
@@ -1120,13 +1040,6 @@ impl Bench<'_> {
             || format!("{refusals:?}, D {}, L {lever}", figures[3]),
         )
     }
-}
-
-/// A row as a call's input.
-pub fn row_text(row: &Line<Vec<u32>>) -> String {
-    let Line { cars, gaps, speeds, words } = row;
-    let records: Vec<String> = cars.chunks(12).map(hex).collect();
-    format!("gaps {gaps:?} speeds {speeds:?} words {} records\n        {}", hex(words), records.join("\n        "))
 }
 
 /// What the library gives for moves: the refusal, and the cells for the words and for the count.
@@ -1150,14 +1063,6 @@ pub fn moves_text((refusal, cells, count): MovesGiven) -> String {
 pub fn sighting_text([kind, metres, kmh]: [u32; 3]) -> String {
     let float = |bits| format!("{bits:08X} ({:?})", f32::from_bits(bits));
     format!("kind {kind} metres {} kmh {}", float(metres), float(kmh))
-}
-
-/// A row by the library: the refusal, the seconds run, and the row with the records and gaps afterwards.
-fn row_run(row: &Line<Vec<u32>>) -> (u32, usize, Line<Vec<u32>>) {
-    let mut after = row.clone();
-    let (refusal, out) =
-        library::row(Some(&mut after.cars), Some(&mut after.gaps), Some(&row.speeds), Some(&row.words));
-    (refusal, out[1], after)
 }
 
 /// The event and the seconds of a mark, by the library.
@@ -1219,13 +1124,12 @@ enum Call {
     Sighting,
     See,
     Moves,
-    Row,
 }
 
-const CALL_NAMES: [&str; 12] =
-    ["fresh", "drive", "lesson", "test", "figures", "alike", "copy", "mark", "sighting", "see", "moves", "row"];
+const CALL_NAMES: [&str; 11] =
+    ["fresh", "drive", "lesson", "test", "figures", "alike", "copy", "mark", "sighting", "see", "moves"];
 /// The refusals that a function gives, 0 for none; 21 is the programs'.
-const REFUSALS: usize = 30;
+const REFUSALS: usize = 27;
 
 #[derive(Default)]
 struct Tally {
@@ -1252,7 +1156,6 @@ struct Tally {
     faults_driven: u64,
     /// Lists of moves, by how many words they have.
     lists: [u64; MOST_MOVES + 1],
-    row_seconds: u64,
 }
 
 impl Tally {
@@ -1306,7 +1209,6 @@ impl Tally {
             self.faults_driven
         );
         println!("  {:>9} lists of moves, {}", self.lists.iter().sum::<u64>(), lists_text(&self.lists));
-        println!("  {:>9} seconds of rows", self.row_seconds);
         print!("{:>8}", "answer");
         CALL_NAMES.iter().for_each(|name| print!("{name:>10}"));
         println!("{:>14}", "lesson words");

@@ -1,6 +1,6 @@
 //! What each test program has to print for its input, by the model.
 
-use crate::calls::{copied, moved, Call, Fields, Line, Outcome, Pair, Settings, UNUSED};
+use crate::calls::{copied, moved, Call, Fields, Outcome, Pair, Settings, UNUSED};
 use crate::exercise::{bytes_of, words_of, Given};
 use crate::inputs::{any_pairs, MARK, WANTED};
 use crate::paper::{Car, Event, Figures, Moves, Passing, Reading, Sighting};
@@ -140,8 +140,8 @@ pub fn moves(input: &[u8]) -> Result<Vec<u8>, String> {
 
 // ---------------------------------------------------------------- calls
 
-/// The input of `calls`, `cruise_calls`, `copies`, `marks`, `levers` or `rows` call by call, up to the 0 that ends it;
-/// `length` is that of the first call.
+/// The input of `calls`, `cruise_calls`, `copies`, `marks` or `levers` call by call, up to the 0 that ends it; `length` is
+/// that of the first call.
 fn split(mut words: &[u32], length: impl Fn(&[u32]) -> Option<usize>) -> Option<Vec<&[u32]>> {
     let mut calls = Vec::new();
     while *words.first()? != 0 {
@@ -445,66 +445,6 @@ pub fn levers(input: &[u8]) -> Result<Vec<u8>, String> {
 fn moves_line(page: &mut Page, car: Option<Car>, wanted: u32) {
     let (refusal, Moves { count, words }) = moved(car, wanted);
     page.numbers(&[refusal, count as u32]).numbers(&words).end();
-}
-
-// ---------------------------------------------------------------- rows
-
-/// The most words of records, and the most cars; the most gaps, speeds and words.
-const MOST_RECORD_WORDS: u32 = 120;
-const MOST_CARS: u32 = 10;
-const MOST_LISTED: [u32; 3] = [10, 64, 256];
-
-/// The calls of the input of `rows`.
-fn split_rows(words: &[u32]) -> Result<Vec<&[u32]>, String> {
-    let length = |words: &[u32]| {
-        let count = *words.get(1)?;
-        let mut length = match words[0] {
-            1 if count <= MOST_RECORD_WORDS => 2 + count as usize,
-            2 if count <= MOST_CARS => 2 + 24 * count as usize,
-            _ => return None,
-        };
-        for most in MOST_LISTED {
-            length += 1 + *words.get(length).filter(|&&count| count <= most)? as usize;
-        }
-        Some(length)
-    };
-    split(words, length).ok_or_else(|| String::from("rows: an input that it does not read, or only in part"))
-}
-
-pub fn rows(input: &[u8]) -> Result<Vec<u8>, String> {
-    let mut page = Page::default();
-    for call in split_rows(&words_of(input))? {
-        let count = call[1] as usize;
-        if call[0] == 1 {
-            let (records, lists) = call[2..].split_at(count);
-            let mut row = line_of(records.to_vec(), lists);
-            let (refusal, seconds) = row.run();
-            row_lines(&mut page, refusal, seconds, &row.gaps);
-            page.numbers(&row.cars).end();
-        } else {
-            let (cars, lists) = call[2..].split_at(24 * count);
-            let mut row = line_of(cars_of(cars), lists);
-            let (refusal, seconds) = row.run();
-            row_lines(&mut page, refusal, seconds, &row.gaps);
-            row.cars.iter().for_each(|car| page.numbers(&car.0).end());
-        }
-    }
-    Ok(page.0)
-}
-
-/// A row of these cars and of three lists, each behind its length.
-fn line_of<Cars>(cars: Cars, mut lists: &[u32]) -> Line<Cars> {
-    let [gaps, speeds, words] = MOST_LISTED.map(|_| {
-        let (list, rest) = lists[1..].split_at(lists[0] as usize);
-        lists = rest;
-        list.to_vec()
-    });
-    Line { cars, gaps, speeds, words }
-}
-
-fn row_lines(page: &mut Page, refusal: u32, seconds: usize, gaps: &[u32]) {
-    page.numbers(&[refusal, seconds as u32]).end();
-    page.numbers(gaps).end();
 }
 
 // ---------------------------------------------------------------- alikes

@@ -50,17 +50,6 @@ mod c {
         pub fn cruise_sighting(kind: u32, metres: f32, kmh: f32, word: *mut u32) -> u32;
         pub fn cruise_see(record: *mut u32, length: usize, kind: u32, metres: f32, kmh: f32) -> u32;
         pub fn cruise_moves(record: *const u32, length: usize, wanted: u32, moves: *mut u32, count: *mut usize) -> u32;
-        pub fn cruise_row(
-            records: *mut u32,
-            record_words: usize,
-            gaps: *mut u32,
-            gap_count: usize,
-            speeds: *const u32,
-            speed_count: usize,
-            words: *const u32,
-            word_count: usize,
-            seconds: *mut usize,
-        ) -> u32;
     }
 }
 
@@ -170,23 +159,4 @@ pub fn moves(record: Option<&[u32]>, wanted: u32) -> (u32, [u32; MOST_MOVES + 2]
     let refusal =
         unsafe { c::cruise_moves(record, length, wanted, out.as_mut_ptr().add(1), count.as_mut_ptr().add(1)) };
     (refusal, out, count)
-}
-
-/// The refusal, and: guard, seconds, guard.
-pub fn row(
-    records: Option<&mut [u32]>,
-    gaps: Option<&mut [u32]>,
-    speeds: Option<&[u32]>,
-    words: Option<&[u32]>,
-) -> (u32, [usize; 3]) {
-    let (records, record_words) = lent_mut(records);
-    let (gaps, gap_count) = lent_mut(gaps);
-    let (speeds, speed_count) = lent(speeds);
-    let (words, word_count) = lent(words);
-    let mut out = [GUARD as usize; 3];
-    let seconds = out.as_mut_ptr();
-    let refusal = unsafe {
-        c::cruise_row(records, record_words, gaps, gap_count, speeds, speed_count, words, word_count, seconds.add(1))
-    };
-    (refusal, out)
 }

@@ -13,7 +13,6 @@ mod paper;
 mod parts;
 mod program;
 mod random;
-mod rows;
 mod session;
 mod settling;
 mod sightings;
@@ -25,18 +24,17 @@ use std::process::ExitCode;
 use std::time::Instant;
 
 const USAGE: &str = "usage:
-[tests [DIR] | compare [SEED] | program [SEED] | settling | moves | row | sightings | replay KIND SEED | speed |
+[tests [DIR] | compare [SEED] | program [SEED] | settling | moves | sightings | replay KIND SEED | speed |
 once WORKLOAD WAY]
 compare tries the library, program the programs `lesson`, `clean`, `mark` and `moves`; with no argument tests, compare,
-settling, moves, row, program are run
+settling, moves, program are run
 tests holds the test programs' expected outputs to the model; with DIR, a folder of outside vectors, it holds that folder's
 answers to the model and then writes the programs' inputs and expected outputs
 settling leaves cars of every v and every D to cruise, by the library and by the model
 moves asks the library and the model for the moves of the lever from every D to every wanted D
-row runs random rows of cars by the million, by the library and by the model
 sightings tries the library's conversion of every float, as metres and as km/h
-KIND is one of fresh, walk, lesson, damaged, cars, alike, tuned, copy, mark, sighting, see, moves, row of the library,
-short, failing, pages, file, pipe, live, clean, edges, neutral of the programs; a SEED is decimal or 0x hexadecimal
+KIND is one of fresh, walk, lesson, damaged, cars, alike, tuned, copy, mark, sighting, see, moves of the library, short,
+failing, pages, file, pipe, live, clean, edges, neutral of the programs; a SEED is decimal or 0x hexadecimal
 WORKLOAD is one of mixed, accepted, ticks, random, fresh-ticks, fresh-random, half; WAY is one of library, tuned, never,
 often, where the car is fresh (all but ticks and random) copy, exact, and of half mark, found, found-lesson";
 
@@ -45,7 +43,7 @@ fn main() -> ExitCode {
     let arguments: Vec<String> = std::env::args().skip(1).collect();
     let arguments: Vec<&str> = arguments.iter().map(String::as_str).collect();
     let agrees = match arguments[..] {
-        [] => Some(all()),
+        [] => Some(tests::run() && compare::run(1) && settling::run() && moves::run() && program::run(1)),
         ["tests"] => Some(tests::run()),
         ["tests", folder] => Some(tests::renew(folder)),
         ["compare"] => Some(compare::run(1)),
@@ -54,7 +52,6 @@ fn main() -> ExitCode {
         ["program", seed] => number(seed).map(program::run),
         ["settling"] => Some(settling::run()),
         ["moves"] => Some(moves::run()),
-        ["row"] => Some(rows::run()),
         ["sightings"] => Some(sightings::run()),
         ["replay", kind, seed] => number(seed).and_then(|seed| replay(kind, seed)),
         ["speed"] => {
@@ -72,10 +69,6 @@ fn main() -> ExitCode {
             ExitCode::from(2)
         }
     }
-}
-
-fn all() -> bool {
-    tests::run() && compare::run(1) && settling::run() && moves::run() && rows::run() && program::run(1)
 }
 
 /// One case of the library or of the programs again.

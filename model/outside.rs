@@ -1,6 +1,6 @@
 //! A folder of outside vectors: its inputs, and its answers held to the model's.
 
-use crate::calls::{run_all, Call, Copy, Fields, Goal, Line, Mark, Outcome, Pair, Settings, Start};
+use crate::calls::{run_all, Call, Copy, Fields, Goal, Mark, Outcome, Pair, Settings, Start};
 use crate::exercise::{bytes_of, is_refused, words_of, Given};
 use crate::paper::{Car, Event, Moves, Passing, Sighting};
 use crate::parts::Parts;
@@ -73,23 +73,6 @@ impl Folder {
         self.lines("moves.in", read_goal)
     }
 
-    /// The rows of row.in.
-    pub fn rows(&self) -> Result<Option<Vec<OutsideRow>>, String> {
-        let Some(text) = self.text("row.in")? else {
-            return Ok(None);
-        };
-        let mut rows = Vec::new();
-        let mut row = OutsideRow::default();
-        for (number, line) in (1..).zip(text.lines()) {
-            if line == "run" {
-                rows.push(std::mem::take(&mut row));
-            } else {
-                row.read(line).ok_or_else(|| format!("row.in, line {number}: no line of a row: {line}"))?;
-            }
-        }
-        Ok(Some(rows))
-    }
-
     /// The pairs of records of alike.in.
     pub fn pairs(&self) -> Result<Option<Vec<Pair>>, String> {
         self.lines("alike.in", read_pair)
@@ -133,58 +116,6 @@ pub struct Listed {
     pub word: u32,
     pub refusal: u32,
     pub speed: u32,
-}
-
-/// A row whose cars of ours are given by records, or as fields.
-#[derive(Default)]
-pub struct OutsideRow {
-    records: Vec<Option<Vec<u32>>>,
-    cars: Vec<Fields>,
-    gaps: Vec<u32>,
-    speeds: Vec<u32>,
-    words: Vec<u32>,
-}
-
-impl OutsideRow {
-    fn read(&mut self, line: &str) -> Option<()> {
-        let (kind, rest) = line.split_once(' ').unwrap_or((line, ""));
-        let numbers = || rest.split_whitespace().map(|number| number.parse().ok()).collect::<Option<Vec<u32>>>();
-        match kind {
-            "rec" => {
-                let record = hex_words(rest)?;
-                self.cars.push(Car::read(&record).map(|car| Fields::of(&car)).or(Fields::of_record(&record))?);
-                self.records.push(Some(record));
-            }
-            "car" => {
-                let mut changes = rest.split_whitespace().map(read_change);
-                let fresh = Fields::of(&Car::fresh(1, 0, 0).ok()?);
-                let car =
-                    changes.try_fold(fresh, |car, change| change.and_then(|(name, value)| car.with(&name, value)));
-                self.cars.push(car?);
-                self.records.push(None);
-            }
-            "gaps" => self.gaps = numbers()?,
-            "speeds" => self.speeds = numbers()?,
-            "words" => self.words = hex_words(rest)?,
-            _ => return None,
-        }
-        Some(())
-    }
-
-    /// By records, where each car is given by one.
-    pub fn lent(&self) -> Option<Line<Vec<u32>>> {
-        let records: Option<Vec<Vec<u32>>> = self.records.iter().cloned().collect();
-        records.map(|records| self.line(records.concat()))
-    }
-
-    /// By cars as they stand.
-    pub fn on_cars(&self) -> Line<Vec<Fields>> {
-        self.line(self.cars.clone())
-    }
-
-    fn line<Cars>(&self, cars: Cars) -> Line<Cars> {
-        Line { cars, gaps: self.gaps.clone(), speeds: self.speeds.clone(), words: self.words.clone() }
-    }
 }
 
 fn hex_words(text: &str) -> Option<Vec<u32>> {
@@ -300,7 +231,6 @@ impl Folder {
             + self.hold_marks()?
             + self.hold_sightings()?
             + self.hold_moves()?
-            + self.hold_rows()?
             + self.hold_pairs()?
             + self.hold_written()?;
         for name in self.names.iter().filter_map(|name| name.strip_suffix(".bin")) {
@@ -362,14 +292,6 @@ impl Folder {
         };
         let model: Vec<String> = goals.iter().map(moves_answer).collect();
         hold_lines("moves.txt", &self.answers("moves.txt")?, &model)
-    }
-
-    fn hold_rows(&self) -> Result<usize, String> {
-        let Some(rows) = self.rows()? else {
-            return Ok(0);
-        };
-        let model: Vec<String> = rows.iter().flat_map(|row| row_answers(row.on_cars())).collect();
-        hold_lines("row.txt", &self.answers("row.txt")?, &model)
     }
 
     fn hold_pairs(&self) -> Result<usize, String> {
@@ -502,18 +424,6 @@ fn sighting_answer(sighting: Sighting) -> String {
 fn moves_answer(goal: &Goal) -> String {
     let (refusal, Moves { count, words }) = goal.run();
     format!("refusal {refusal} count {count} words {}", hex(&words))
-}
-
-/// A row's answers as a folder gives them.
-fn row_answers(mut row: Line<Vec<Fields>>) -> Vec<String> {
-    let (refusal, seconds) = row.run();
-    let gaps: Vec<String> = row.gaps.iter().map(u32::to_string).collect();
-    let mut lines = vec![format!("refusal {refusal} seconds {seconds}"), format!("gaps {}", gaps.join(" "))];
-    for car in row.cars {
-        lines.push(format!("car {}", car.text()));
-        lines.push(car.record().map_or(String::from("rec none"), |record| format!("rec {}", hex(&record))));
-    }
-    lines
 }
 
 /// A pair's answer as a folder gives it.

@@ -1,11 +1,9 @@
-//! Chance from a seed: plain numbers, event words, drives that get somewhere, sightings, wanted speeds, rows, cars and
-//! damaged records.
+//! Chance from a seed: plain numbers, event words, drives that get somewhere, sightings, wanted speeds, cars and damaged
+//! records.
 
-use crate::calls::Line;
 use crate::exercise::neutral_places;
 use crate::paper::{
-    held_desired, way_to_stop, Car, ForeBack, Key, Mode, Row, Second, UpDown, CLOCK_END, LONGEST_GAP, NOT_READY,
-    OLD_GAP, TEST_PERIOD,
+    held_desired, Car, ForeBack, Key, Mode, Second, UpDown, CLOCK_END, LONGEST_GAP, NOT_READY, OLD_GAP, TEST_PERIOD,
 };
 
 /// splitmix64.
@@ -408,124 +406,6 @@ pub fn neutral_walk(random: &mut Random, fresh: Car, count: usize) -> Vec<u32> {
     let mut words: Vec<u32> = (walk.len()..count).map(|_| standing_word(random)).collect();
     words.extend(walk);
     words
-}
-
-// ---------------------------------------------------------------- Rows
-
-/// A row of so many cars of ours, most of them about as close as they may start, with words for so many seconds. Now and
-/// then a car starts too close, the first one brakes too hard or a clock comes to its end.
-pub fn row(random: &mut Random, count: usize, seconds: usize) -> Line<Vec<u32>> {
-    let last = if random.once_in(12) { CLOCK_END } else { CLOCK_END - seconds as i32 };
-    let mut cars: Vec<Car> = (0..count).map(|_| early_car(random, last)).collect();
-    let mut speeds = vec![random.near(&[0, 216, 500, 1300, 5000], 5000)];
-    if random.below(4) > 0 {
-        let widest = random.pick(&[1, 40, 217]);
-        cars.iter_mut().for_each(|car| keep_up(random, car, speeds[0], widest));
-    }
-    let gaps = start_gaps(random, speeds[0], &cars);
-    while speeds.len() <= seconds {
-        let change = random.pick(&[-217, -216, -216, -216, -216, -150, -30, 0, 0, 0, 36, 108, 5000]);
-        let is_too_hard = change == -217 && random.once_in(8);
-        for place in 0..1 + random.below(30) {
-            let change = if is_too_hard && place == 0 { change } else { change.max(-216) };
-            speeds.push((speeds[speeds.len() - 1] + change).clamp(0, 5000));
-        }
-    }
-    speeds.truncate(seconds + 1);
-    let mut speeds: Vec<u32> = speeds.into_iter().map(|speed| speed as u32).collect();
-    if random.once_in(64) {
-        let place = random.below(speeds.len() as u32) as usize;
-        speeds[place] = random.pick(&[5001, 5216, 8191, 1 << 13, 1 << 16, 1 << 31, u32::MAX]);
-    }
-    let words = row_words(random, Row::new(&cars, &gaps), &speeds);
-    let records = cars.iter().flat_map(|car| record(random, car)).collect();
-    Line { cars: records, gaps, speeds, words }
-}
-
-/// A good car whose clock is at most `last`.
-fn early_car(random: &mut Random, last: i32) -> Car {
-    loop {
-        let car = if random.once_in(16) { good_car(random) } else { made_car(random) };
-        if car.now <= last {
-            return car;
-        }
-    }
-}
-
-/// Makes the car about as fast as this, if its key is on.
-fn keep_up(random: &mut Random, car: &mut Car, speed: i32, widest: i32) {
-    if car.key == Key::On {
-        car.speed = (speed + random.between(-widest, widest)).clamp(0, 5000);
-        car.limit = car.limit.max(car.speed);
-    }
-}
-
-fn start_gaps(random: &mut Random, first: i32, cars: &[Car]) -> Vec<u32> {
-    let mut ahead = first;
-    let mut gaps = Vec::new();
-    for car in cars {
-        let least = (way_to_stop(i64::from(car.speed)) - way_to_stop(i64::from(ahead))).max(0) as i32;
-        let more = random.pick(&[0, 0, 1, 35, 36, 216, 1000, 3000, 9144, 9180, 30_000, 100_000]) + random.between(0, 1);
-        gaps.push(match random.below(256) {
-            0 => (least - 1).max(0),
-            1 => random.between(0, 1_000_000),
-            2 => random.pick(&[999_999, 1_000_000, 1_000_001]),
-            _ => least + more,
-        } as u32);
-        ahead = car.speed;
-    }
-    gaps
-}
-
-/// A word for each car in each second, second by second, the front car first.
-fn row_words(random: &mut Random, mut row: Row, speeds: &[u32]) -> Vec<u32> {
-    let mut drivers: Vec<Driver> = row.cars.iter().map(|_| Driver::new(random)).collect();
-    let mut words = Vec::new();
-    let mut runs = row.check_start(speeds).is_ok();
-    for first in speeds.windows(2) {
-        let second: Vec<u32> =
-            row.cars.iter().zip(&mut drivers).map(|(car, driver)| row_word(random, driver, car)).collect();
-        runs = runs && row.second(first[0], first[1], &second).is_ok();
-        words.extend(second);
-    }
-    words
-}
-
-/// A word that a pupil gives, or the gas down, noise, or one that no car of a row takes.
-fn row_word(random: &mut Random, driver: &mut Driver, car: &Car) -> u32 {
-    match random.below(10) {
-        0 | 1 if car.brake > 0 => word(4, 0),
-        0 | 1 => word(5, 225),
-        2 => noise_word(random),
-        3..=5 => word(10, i32::from(car.ready)),
-        _ => driver.word(random, car),
-    }
-}
-
-/// Spoils a row now and then: its records, its gaps, its speeds or its words.
-pub fn spoil_row(random: &mut Random, row: &mut Line<Vec<u32>>) {
-    match random.below(16) {
-        0 => {
-            let place = random.below(row.cars.len() as u32 / 12 + 1) as usize;
-            let damaged = damaged_record(random);
-            row.cars.splice((12 * place).min(row.cars.len())..(12 * place + 12).min(row.cars.len()), damaged);
-        }
-        1 => row.cars.truncate(random.below(row.cars.len() as u32 + 1) as usize),
-        2 => row.gaps.truncate(random.below(row.gaps.len() as u32 + 1) as usize),
-        3 => row.gaps.push(random.below(2_000_000)),
-        4 => {
-            let wide = [1_000_001, 1 << 20, 1 << 31, u32::MAX - 1, u32::MAX];
-            let gap = if random.once_in(2) { random.word() } else { random.pick(&wide) };
-            if let Some(changed) = row.gaps.iter_mut().take(1 + random.below(8) as usize).last() {
-                *changed = gap;
-            }
-        }
-        5 => row.speeds.truncate(random.below(row.speeds.len() as u32 + 1) as usize),
-        6 => row.words.truncate(random.below(row.words.len() as u32 + 1) as usize),
-        7 => row.words.extend((0..random.below(20)).map(|place| place << 28)),
-        8 => row.words.iter_mut().for_each(|word| *word = if random.once_in(3) { random.word() } else { *word }),
-        _ => {}
-    }
 }
 
 // ---------------------------------------------------------------- Cars

@@ -2,7 +2,7 @@
 
 use crate::calls::{converted, moved};
 use crate::library;
-use crate::paper::{Car, Event, Key, Moves, Passing, Row, Second, Sighting};
+use crate::paper::{Car, Key, Moves, Passing, Second, Sighting};
 use crate::random::{self, Driver, Random};
 use crate::tuned;
 use std::hint::black_box;
@@ -110,11 +110,6 @@ pub fn run(start: Instant) {
     let goals = goal_rows();
     print_pairs("moves", &goals, &[("library", library_moves), ("model", model_moves)]);
     print_slowest(&goals);
-    println!("\nrows of {ROW_CARS} cars, ns per second of all of them, median of {RUNS} runs in turn");
-    println!(
-        "second: cruise_row for each second; row: for {ROW_SECONDS} seconds; lessons: cruise_lesson of reading, word and tick for each car"
-    );
-    print_rows();
     println!("\nmarks, ns per word, median of {RUNS} runs in turn: cruise_mark beside cruise_lesson on the same words");
     println!("up to the find: the words as far as the event that passes the mark, and no more");
     print_marks(&mark_rows(&copied, &ticks, &random));
@@ -282,80 +277,6 @@ fn goals(name: &'static str, desired: impl Iterator<Item = i32>, wanted: impl Fn
     };
     let lessons = desired.map(car).map(|car| Lesson::of((car, wanted(&car)))).collect();
     Workload { name, lessons }
-}
-
-// ---------------------------------------------------------------- Rows
-
-const ROW_CARS: usize = 7;
-const ROW_SECONDS: usize = 100;
-/// A word that no car takes, in a row or in a lesson.
-const NO_EVENT: u32 = 0;
-
-/// A row in which the assistant does not brake, so that lessons do the same work.
-struct RowWork {
-    records: Vec<u32>,
-    gaps: Vec<u32>,
-    speeds: Vec<u32>,
-    words: Vec<u32>,
-    /// The same as lessons, each a car's reading, word and tick, second by second, the front car first.
-    lessons: Vec<[u32; 3]>,
-}
-
-impl RowWork {
-    fn of(cars: &[Car], gap: u32, speed: u32, mut word: impl FnMut() -> u32) -> RowWork {
-        let gaps = vec![gap; ROW_CARS];
-        let speeds = vec![speed; ROW_SECONDS + 1];
-        let words: Vec<u32> = (0..ROW_SECONDS * ROW_CARS).map(|_| word()).collect();
-        let mut row = Row::new(cars, &gaps);
-        let mut lessons = Vec::new();
-        row.check_start(&speeds).expect("a start that is far enough apart");
-        for words in words.chunks(ROW_CARS) {
-            let mut ahead = i64::from(speed);
-            for ((car, &gap), &word) in row.cars.iter().zip(&row.gaps).zip(words) {
-                let reading = car.row_reading(gap, ahead).expect("a radar that is ready");
-                lessons.push([reading.word(), word, Event::Tick { ready: true }.word()]);
-                ahead = i64::from(car.speed);
-            }
-            row.second(speed, speed, words).expect("a second that is run");
-        }
-        assert!(row.assisted == 0, "the assistant has braked");
-        RowWork { records: cars.iter().flat_map(Car::write).collect(), gaps, speeds, words, lessons }
-    }
-}
-
-/// Seven cars with the radar ready, the front one of this v and each next one slower by so much.
-fn row_cars(random: &mut Random, speed: i32, step: i32) -> Vec<Car> {
-    let car = |number| Car { speed: speed - step * number, ..random::following_car(random) };
-    let ready = |car: Car| Car { gas: 0, desired: 1000, limiter: false, ready: true, range: 0, ..car };
-    (0..ROW_CARS as i32).map(car).map(ready).collect()
-}
-
-/// Cruise at 1000 behind one another with few events, at up to 5000 with the gas down, and at 1000 with random words.
-fn row_works() -> [(&'static str, Vec<RowWork>); 3] {
-    let random = &mut Random::new(7);
-    let mut cruising = Vec::new();
-    let mut fast = Vec::new();
-    let mut any = Vec::new();
-    for _ in 0..LESSONS {
-        let cars = row_cars(random, 1000, 10);
-        let few = || if random.once_in(10) { random.pick(&[0x7000_0014, 0x7000_0019, 0x5000_0000]) } else { NO_EVENT };
-        cruising.push(RowWork::of(&cars, 2160, 1000, few));
-        let cars: Vec<Car> = row_cars(random, 5000, 100).iter().map(|car| Car { gas: 225, ..*car }).collect();
-        fast.push(RowWork::of(&cars, 8000, 5000, || NO_EVENT));
-        let cars = row_cars(random, 1000, 10);
-        any.push(RowWork::of(&cars, 2160, 1000, || row_word(random)));
-    }
-    [("cruising", cruising), ("gas down", fast), ("random words", any)]
-}
-
-/// Any word but a tick or a reading, which a lesson may take and a row does not.
-fn row_word(random: &mut Random) -> u32 {
-    loop {
-        let word = random.word();
-        if !matches!(word >> 28, 9 | 10) {
-            return word;
-        }
-    }
 }
 
 // ---------------------------------------------------------------- Marks
@@ -530,37 +451,6 @@ fn model_moves(lesson: &Lesson, _: &mut [u32]) -> u32 {
     })
 }
 
-/// A row second by second, as one number made from the last records.
-fn library_seconds(work: &RowWork) -> u32 {
-    let (mut records, mut gaps) = (work.records.clone(), work.gaps.clone());
-    let mut refusals = 0;
-    for (first, words) in work.speeds.windows(2).zip(work.words.chunks(ROW_CARS)) {
-        refusals |= library::row(Some(&mut records), Some(&mut gaps), Some(first), Some(words)).0;
-    }
-    mixed(refusals, &records)
-}
-
-fn library_row(work: &RowWork) -> u32 {
-    let (mut records, mut gaps) = (work.records.clone(), work.gaps.clone());
-    let (refusal, _) = library::row(Some(&mut records), Some(&mut gaps), Some(&work.speeds), Some(&work.words));
-    mixed(refusal, &records)
-}
-
-fn library_row_lessons(work: &RowWork) -> u32 {
-    let mut records = work.records.clone();
-    let mut refusals = 0;
-    for second in work.lessons.chunks(ROW_CARS) {
-        for (record, words) in records.chunks_mut(12).zip(second) {
-            refusals |= library::lesson(Some(record), Some(words), Some(&mut [0; 3])).0;
-        }
-    }
-    mixed(refusals, &records)
-}
-
-fn mixed(refusals: u32, records: &[u32]) -> u32 {
-    records.iter().fold(refusals, |sum, &word| sum.rotate_left(5) ^ word)
-}
-
 /// A record read and tested once for each word; the words only say how often.
 fn library_test(lesson: &Lesson, _: &mut [u32]) -> u32 {
     lesson.words.iter().fold(0, |sum, _| sum + library::test(Some(black_box(&lesson.record))))
@@ -658,21 +548,6 @@ fn row_of_moves(record: &[u32; 12], wanted: u32) -> f64 {
     start.elapsed().as_nanos() as f64 / f64::from(CALLS)
 }
 
-fn print_rows() {
-    let ways = [library_seconds, library_row, library_row_lessons];
-    println!(
-        "{:<14}{:>10}{:>10}{:>10}{:>18}{:>18}",
-        "workload", "second", "row", "lessons", "second/lessons", "row/lessons"
-    );
-    for (name, works) in row_works() {
-        let once =
-            |way: usize| works.iter().map(|work| black_box(ways[way](black_box(work)))).fold(0, u32::wrapping_add);
-        let [second, row, lessons] = in_turn(works.len() * ROW_SECONDS, once);
-        print!("{name:<14}{second:>10.1}{row:>10.1}{lessons:>10.1}");
-        println!("{:>18.2}{:>18.2}", second / lessons, row / lessons);
-    }
-}
-
 fn print_copies(workloads: &[Workload]) {
     let ways: [(&str, Way); 3] = [("copy", library_copy), ("exact", library_exact_copy), ("lesson", library_accepted)];
     let [copy, exact, lesson] = ways.map(|(name, _)| name);
@@ -710,20 +585,15 @@ fn print_table(workloads: &[Workload], ways: &[(&str, Way); 3]) {
     }
 }
 
-/// The median time of each way in ns per word, the ways taking turns.
+/// The median time of each way in ns per word, the ways taking turns; all must come to the same number.
 fn medians<const WAYS: usize>(workload: &Workload, ways: &[(&str, Way); WAYS]) -> [f64; WAYS] {
     let mut answers = vec![0; LESSON_WORDS];
-    in_turn(workload.words(), |way| once(workload, ways[way].1, &mut answers))
-}
-
-/// The median time of each way in ns per unit of its work, the ways taking turns; all must come to the same number.
-fn in_turn<const WAYS: usize>(units: usize, mut once: impl FnMut(usize) -> u32) -> [f64; WAYS] {
     let mut times = [[0.0; RUNS]; WAYS];
     for run in 0..RUNS {
         let sums: [u32; WAYS] = std::array::from_fn(|way| {
             let start = Instant::now();
-            let sum = once(way);
-            times[way][run] = start.elapsed().as_nanos() as f64 / units as f64;
+            let sum = once(workload, ways[way].1, &mut answers);
+            times[way][run] = start.elapsed().as_nanos() as f64 / workload.words() as f64;
             sum
         });
         assert!(sums.iter().all(|&sum| sum == sums[0]), "the ways differ: {sums:?}");

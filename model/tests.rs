@@ -30,7 +30,7 @@ const MARKED: Rooms = Rooms { input: 2 * INPUT_ROOM, output: 131_072 - 21 };
 /// Those of a program that reads and prints piece by piece.
 const ANY: Rooms = Rooms { input: usize::MAX, output: usize::MAX };
 
-const PROGRAMS: [Program; 16] = [
+const PROGRAMS: [Program; 15] = [
     tested("event_words", inputs::event_words, expected::event_words),
     tested("car_figures", inputs::car_figures, expected::car_figures),
     tested("calls", inputs::calls, expected::calls),
@@ -40,7 +40,6 @@ const PROGRAMS: [Program; 16] = [
     Program { rooms: COPIED, ..tested("copies", inputs::copies, expected::copies) },
     Program { rooms: MARKED, ..tested("marks", inputs::marks, expected::marks) },
     tested("levers", inputs::levers, expected::levers),
-    tested("rows", inputs::rows, expected::rows),
     tested("sightings", inputs::sightings, expected::sightings),
     tested("alikes", inputs::alikes, expected::alikes),
     Program { rooms: ANY, ..tested(LESSON, inputs::lesson, expected::lesson) },
@@ -63,14 +62,13 @@ const LONGEST: &str = "clock-end.bin";
 /// The one that lists the files of its data/.
 const VECTORS: &str = "crates/vectors";
 /// The files of a folder that the programs' inputs come from beside those.
-const OTHERS: [&str; 11] = [
+const OTHERS: [&str; 10] = [
     "alike.in",
     "calls.in",
     "copy.in",
     "edges.in",
     "mark.in",
     "moves.in",
-    "row.in",
     "sighting.in",
     "write.in",
     "records.txt",

@@ -3,7 +3,7 @@
 // What C can hand over is slices beside each other, kinds and refusals by number, and a place for each figure, with 0 for none.
 #![tactic(auto, using(kit::specs::Pick::picks))]
 
-ghost use Rattle.std.specs.Prelude.{◌≡◌, ◌≤◌, false, map, pos};
+ghost use Rattle.std.specs.Prelude.{◌≡◌, ◌≤◌, false};
 ghost use Rattle.std.specs.Result.{result_unwrap_or};
 ghost use Rattle.event.specs.Words.{bit_of};
 ghost use Rattle.motion.specs.Acceleration.{signed};
@@ -15,7 +15,6 @@ ghost use Rattle.record.specs.Record.{read_of};
 ghost use Rattle.record.specs.RecordLesson.{LessonLeft, lesson_left};
 ghost use Rattle.lever.specs.Fewest.{moves_answer};
 ghost use Rattle.copy.specs.Copy.{Copied, copy_answer, started_copy, started_buffer};
-ghost use Rattle.record_row.specs.RecordRow.{row_cars, RowLeft, row_left};
 ghost use Rattle.cruise.specs.Cruise.{Left, fresh_left, drive_left, figures_read, Dials, dials_of, alike_refusal, alike_answer, MarkLeft, mark_found, mark_left, MovesLeft, moves_left, sighting_of, handed_word, SightingLeft, sighting_left, see_left};
 
 use answer::Answer;
@@ -200,20 +199,6 @@ pub fn cruise_moves(record: &[u32], wanted: u32, moves: &mut [u32; 6], count: &m
             u32::from(refusal)
         }
     }
-}
-
-pub fn cruise_row(
-    records: &mut [u32],
-    gaps: &mut [u32],
-    speeds: &[u32],
-    words: &[u32],
-    seconds: &mut usize,
-) -> u32
-    ensures { ◌≡◌ {A = RowLeft} (record { refusal = result; records = records.new; gaps = map pos gaps.new; seconds = seconds.new }) (row_left records.old (row_cars records.old) (map pos gaps.old) speeds.now words.now) }
-{
-    let ran = record_row::run(records, gaps, speeds, words);
-    *seconds = ran.seconds;
-    refusal::number(&ran.end)
 }
 
 // A sighting by its kind's number and two figures, as C hands them over: this is where the three become one value.

@@ -2,13 +2,12 @@
 // crate can stand on a static library; slices, kinds and refusals are as C hands them over.
 #![tactic(auto)]
 
-ghost use Rattle.std.specs.Prelude.{◌≡◌, map, pos};
+ghost use Rattle.std.specs.Prelude.{◌≡◌};
 ghost use Rattle.kit.specs.Answer.{number_of};
 ghost use Rattle.settings.specs.SettingsWord.{start_of};
 ghost use Rattle.record.specs.Record.{read_of};
 ghost use Rattle.record.specs.RecordLesson.{LessonLeft, lesson_left};
 ghost use Rattle.copy.specs.Copy.{Copied, started_copy, started_buffer};
-ghost use Rattle.record_row.specs.RecordRow.{row_cars, RowLeft, row_left};
 ghost use Rattle.cruise.specs.Cruise.{Left, fresh_left, drive_left, figures_read, Dials, dials_of, alike_refusal, alike_answer, MarkLeft, mark_left, MovesLeft, moves_left, sighting_of, handed_word, SightingLeft, sighting_left, see_left};
 
 #[unsafe(no_mangle)]
@@ -73,19 +72,6 @@ pub extern "C" fn cruise_moves(
     ensures { ◌≡◌ {A = MovesLeft} (record { refusal = result; count = count.new; words = moves.new }) (moves_left (read_of «record».now) wanted) }
 {
     cruise::cruise_moves(record, wanted, moves, count)
-}
-
-#[unsafe(no_mangle)]
-pub extern "C" fn cruise_row(
-    records: &mut [u32],
-    gaps: &mut [u32],
-    speeds: &[u32],
-    words: &[u32],
-    seconds: &mut usize,
-) -> u32
-    ensures { ◌≡◌ {A = RowLeft} (record { refusal = result; records = records.new; gaps = map pos gaps.new; seconds = seconds.new }) (row_left records.old (row_cars records.old) (map pos gaps.old) speeds.now words.now) }
-{
-    cruise::cruise_row(records, gaps, speeds, words, seconds)
 }
 
 #[unsafe(no_mangle)]

@@ -1,4 +1,4 @@
--- The refusals' numbers are 1 to 29.
+-- The refusals' numbers are 1 to 26.
 -- Assumes nothing.
 use Rattle.std.specs.Prelude.{◌≡◌, ℕ, ◌≤◌}
 use Rattle.std.proofs.Common.{arith}
@@ -6,7 +6,7 @@ use Rattle.event.specs.declared.refusal.Refusal.{Refusal}
 use Rattle.event.specs.declared.refusal.Refusal.TheVariants as refusal
 use Rattle.event.specs.Refusal.{refusal_number}
 
-pub number_range : (r : Refusal) → (1 ≤ refusal_number r) × (refusal_number r ≤ 29)
+pub number_range : (r : Refusal) → (1 ≤ refusal_number r) × (refusal_number r ≤ 26)
 number_range refusal.NoSuchKind = (omega arith, omega arith)
 number_range refusal.UnnamedBit = (omega arith, omega arith)
 number_range refusal.OutOfRange = (omega arith, omega arith)
@@ -33,9 +33,6 @@ number_range refusal.TooFast = (omega arith, omega arith)
 number_range refusal.GapWithdrawn = (omega arith, omega arith)
 number_range refusal.NotReadyToMove = (omega arith, omega arith)
 number_range refusal.OutOfReach = (omega arith, omega arith)
-number_range refusal.NotARow = (omega arith, omega arith)
-number_range refusal.StartTooClose = (omega arith, omega arith)
-number_range refusal.FirstCarSpeed = (omega arith, omega arith)
 
 -- a check that gives a refusal's number refuses
 pub number_pos : {A : Type 0} (r : Refusal) (n : ℕ) → refusal_number r ≡ n → n ≡ 0 → A

@@ -32,9 +32,6 @@ refusal_number refusal.TooFast = 23
 refusal_number refusal.GapWithdrawn = 24
 refusal_number refusal.NotReadyToMove = 25
 refusal_number refusal.OutOfReach = 26
-refusal_number refusal.NotARow = 27
-refusal_number refusal.StartTooClose = 28
-refusal_number refusal.FirstCarSpeed = 29
 
 -- what a result says: a value, or the refusal's number
 abbrev pub answer : {A : Type 0} → Result A Refusal → Answer A

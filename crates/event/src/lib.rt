@@ -58,17 +58,10 @@ impl TryFrom<u32> for Event {
     }
 }
 
-// The kind number of a word, whether there is such a kind or not.
-pub fn word_kind(word: u32) -> u32
-    ensures { result ≡ kind_of word }
-{
-    word / KIND
-}
-
 pub fn is_tick(word: u32) -> bool
     ensures { result ≡ eqb (kind_of word) 10 }
 {
-    word_kind(word) == TICK
+    word / KIND == TICK
 }
 
 // Check 2 of a tick's word.

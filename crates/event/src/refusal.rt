@@ -38,10 +38,6 @@ pub enum Refusal {
     // Whoever asks for moves of the lever.
     NotReadyToMove = 25,
     OutOfReach = 26,
-    // Whoever drives a row of cars.
-    NotARow = 27,
-    StartTooClose = 28,
-    FirstCarSpeed = 29,
 }
 
 impl From<Refusal> for u32 {

@@ -1,2 +1,0 @@
-pub mod RecordRow
-pub mod RecordRowShape

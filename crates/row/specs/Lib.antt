@@ -1,5 +1,0 @@
-pub mod Way
-pub mod Row
-pub mod RowPromise
-pub mod RowRoom
-pub mod RowShape
