@@ -137,9 +137,11 @@ fn clean_bytes(page: &mut Page<'_>, bytes: &[u8], cut: NonZeroUsize) {
     }
 }
 
-// A file; pieces of no byte are no case.
+// A file; pieces of no byte are no case, and what stands here is the next kind.
 fn clean_case(input: &mut Reader<'_>, page: &mut Page<'_>) {
+    let start = input.next;
     let Some(cut) = NonZeroUsize::new(input.size(4096)) else {
+        input.next = start;
         return;
     };
     let mut bytes = [0u8; FILE_BYTES];

@@ -1,12 +1,11 @@
 -- A lesson driven part by part: one part of it, and what the loops that count and that write keep. What is left gives the whole.
 -- Assumes nothing.
-use Rattle.std.specs.Prelude.{Ok, Err, true, ◌≡◌, refl, List, [], ◌∷◌, ◌++◌, ℕ, ◌+◌, ◌-◌, ◌≤◌, ◌<◌, ltb, length, take, drop}
-use Rattle.std.proofs.Common.{sym, ap, ◌∙◌, zero-add, arith, length-append, drop-drop, append_assoc}
-use Rattle.std.proofs.lemmas.List.{nil_from_length}
-use borrow.Rule.Slice.PartMut.{put_mid}
+use Rattle.std.specs.Prelude.{Ok, Err, true, ◌≡◌, refl, List, [], ◌∷◌, ◌++◌, ℕ, ◌+◌, ◌-◌, ◌≤◌, ◌<◌, ltb, length, take, drop, get_or, set}
+use Rattle.std.proofs.Common.{sym, ap, ◌∙◌, zero-add, arith, length-append, length-take-le, take_all}
+use Rattle.std.proofs.lemmas.List.{nil_from_length, take_more}
 use borrow.Author.Tests.{lt-ltb, le-ltb}
 use Rattle.kit.specs.Pick.{pick, pick_true, pick_false}
-use Rattle.kit.specs.Placed.{placed, placed_nothing, placed_length, placed_more, placed_first}
+use Rattle.kit.specs.Placed.{placed, placed_nothing, placed_length, placed_more, placed_one, placed_first}
 use Rattle.event.specs.declared.refusal.Refusal.{Refusal}
 use Rattle.event.proofs.RefusalLaws.{number_pos}
 use Rattle.car.specs.declared.Car.{Car}
@@ -191,9 +190,14 @@ module _ (ws said copy₀ copy : List ℕ) (at end : ℕ) (words answers : List 
       no_answers [] = refl
       no_answers (u ∷ us) = refl
 
--- all the words of a part
-pub put_whole : (copy : List ℕ) (at : ℕ) (words said : List ℕ) {run : List ℕ} → sifted words said ≡ words → run ≡ words → put_mid at (at + length words - at) copy run ≡ placed copy at (sifted words said)
-unfolding placed
-put_whole copy at words said e f =
-    let n : at + length words - at ≡ length words = omega arith in
-    rw (e, f, n, drop-drop) (sym (append_assoc (take at copy) words _))
+-- ---- the loop over the words of a part that are all put
+module _ (ws copy₀ : List ℕ) (at : ℕ) (room : at + length ws ≤ length copy₀) where
+  pub all_again : {copy : List ℕ} (i : ℕ) → i < length ws → copy ≡ placed copy₀ at (take i ws) → set copy (at + i) (get_or ws i 0) ≡ placed copy₀ at (take (i + 1) ws)
+  all_again {copy} i h e =
+      let n = length-take-le i ws (omega arith) in
+      let place : at + i ≡ at + length (take i ws) = omega (arith, n) in
+      let long : length (placed copy₀ at (take i ws)) ≡ length copy₀ = placed_length copy₀ at (take i ws) (omega (arith, n)) in
+      rw (e, place, take_more ws i 0 h) (placed_one (placed copy₀ at (take i ws)) _ (get_or ws i 0) (omega (arith, n, long)) ∙ placed_more copy₀ at (take i ws) (get_or ws i 0 ∷ []) (omega arith))
+
+  pub all_ends : {copy : List ℕ} {i : ℕ} → length ws ≤ i → copy ≡ placed copy₀ at (take i ws) → copy ≡ placed copy₀ at ws
+  all_ends {i = i} h e = e ∙ ap (placed copy₀ at) (take_all i ws h)

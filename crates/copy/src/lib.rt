@@ -77,15 +77,25 @@ fn sift(words: &[u32], answers: &[u32], copy: &mut [u32], at: usize)
     }
 }
 
+// All words of a part, from an index on: one by one, so that the compiler has no slice copy to call `memmove` for. The archive for C asks for no more
+// than `memset` from outside.
+fn put_all(words: &[u32], copy: &mut [u32], at: usize)
+    requires { at + length words.now ≤ length copy.old }
+    ensures { copy.new ≡ placed copy.old at words.now }
+{
+    for (i, word) in words.iter().enumerate() {
+        copy[at + i] = *word;
+    }
+}
+
 // The accepted words of a part, by how many were refused and by the answers, from an index on. Copy and index go in together: the loop's invariant
 // is of the whole copy, and of a part lent out it would have to be put together again.
-#[tactic(auto, using(crate::proofs::Parts::put_whole))]
 fn put(refused: usize, words: &[u32], answers: &[u32], copy: &mut [u32], at: usize)
     requires { (refused ≡ 0 → sifted words.now answers.now ≡ words.now) × (at + length (sifted words.now answers.now) ≤ length copy.old) }
     ensures { copy.new ≡ placed copy.old at (sifted words.now answers.now) }
 {
     if refused == 0 {
-        copy[at..at + words.len()].copy_from_slice(words);
+        put_all(words, copy, at);
     } else {
         sift(words, answers, copy, at);
     }

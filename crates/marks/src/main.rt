@@ -120,10 +120,12 @@ fn mark_file(page: &mut Page<'_>, bytes: &[u8], cut: NonZeroUsize, mark: u32) {
     }
 }
 
-// A file; pieces of no byte are no case.
+// A file; pieces of no byte are no case, and what stands here is the next kind.
 fn file_case(input: &mut Reader<'_>, page: &mut Page<'_>) {
+    let start = input.next;
     let mark = input.next();
     let Some(cut) = NonZeroUsize::new(input.size(4096)) else {
+        input.next = start;
         return;
     };
     let mut bytes = [0u8; FILE_BYTES];
