@@ -23,7 +23,7 @@ impl Car {
 
     // What the input's own checks give.
     #[tactic(auto, using(kit::specs::Pick::picks), unfolding(crate::specs::Checks::own_check))]
-    fn own_check(self, input: Input) -> Result<(), Refusal>
+    fn own_check<const LESSON: bool>(self, input: Input) -> Result<(), Refusal>
         ensures { number result ≡ own_check self input }
     {
         match input {
@@ -60,11 +60,11 @@ impl Car {
         }
     }
 
-    // Check 4, then the kind's own.
-    pub(crate) fn check(self, input: Input) -> Result<(), Refusal>
+    // Check 4, then the kind's own. `LESSON` as in `next`.
+    pub(crate) fn check<const LESSON: bool>(self, input: Input) -> Result<(), Refusal>
         ensures { number result ≡ input_check self input }
     {
         self.check_key(input)?;
-        self.own_check(input)
+        self.own_check::<LESSON>(input)
     }
 }

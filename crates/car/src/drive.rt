@@ -11,9 +11,10 @@ use crate::checked::GoodCar;
 use event::{Input, Refusal};
 
 impl Car {
-    // The next car by the input's rule.
+    // The next car by the input's rule. `LESSON` says whether a lesson's loop asks, or one word driven: `next`, `check` with its own checks, and `moved`
+    // have an instance for each. A large function with two callers stays a call, and the loop would hand its car over in memory at every word.
     #[tactic(auto, using(kit::specs::Pick::picks), unfolding(crate::specs::Drive::input_next))]
-    pub(crate) fn next(self, input: Input) -> Car
+    pub(crate) fn next<const LESSON: bool>(self, input: Input) -> Car
         ensures { result ≡ input_next self input }
     {
         match input {
@@ -52,9 +53,9 @@ impl GoodCar {
         ensures car { self.new.car ≡ (step_of self.old.car word).car }
     {
         let car = self.car;
-        let input = event::read_input(word)?;
-        car.check(input)?;
-        self.car = car.next(input);
+        let input = event::read_input_alone(word)?;
+        car.check::<false>(input)?;
+        self.car = car.next::<false>(input);
         Ok(())
     }
 
@@ -68,7 +69,7 @@ impl GoodCar {
         let mut car = good.car;
         let due = good.test_due();
         car.check_tick(word, due)?;
-        car = car.tick(good.moved(code));
+        car = car.tick(good.moved::<false>(code));
         if due {
             car = car.test_radar(event::tick_ready(word));
         }

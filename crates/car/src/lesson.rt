@@ -102,7 +102,7 @@ impl GoodCar {
                 let due = good.test_due();
                 match car.check_tick(*word, due) {
                     Ok(()) => {
-                        let moved = good.moved(code);
+                        let moved = good.moved::<true>(code);
                         stale = car.differs(moved);
                         seconds += counts(mark, moved.speed);
                         car = car.tick(moved);
@@ -117,9 +117,9 @@ impl GoodCar {
                 }
             } else {
                 match event::read_input(*word) {
-                    Ok(input) => match car.check(input) {
+                    Ok(input) => match car.check::<true>(input) {
                         Ok(()) => {
-                            car = car.next(input);
+                            car = car.next::<true>(input);
                             stale = true;
                         }
                         Err(unfit) => {

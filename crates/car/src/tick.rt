@@ -130,8 +130,8 @@ impl GoodCar {
         self.held_for((self.car.now + 1).saturating_sub(self.car.levers.time))
     }
 
-    // D and v after a second. The code is that of the car's acceleration.
-    pub(crate) fn moved(self, code: u32) -> Moved
+    // D and v after a second. The code is that of the car's acceleration; `LESSON` as in `next`.
+    pub(crate) fn moved<const LESSON: bool>(self, code: u32) -> Moved
         requires { code ≡ acceleration_code (acceleration_of self.car) }
         ensures { result ≡ record { desired = tick_desired self.car; speed = tick_speed self.car (tick_desired self.car) } }
     {

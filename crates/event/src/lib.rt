@@ -54,7 +54,7 @@ impl TryFrom<u32> for Event {
         if is_tick(word) {
             return read_tick(word);
         }
-        Ok(Event::Input(read_input(word)?))
+        Ok(Event::Input(read_input_alone(word)?))
     }
 }
 
@@ -92,12 +92,21 @@ fn read_tick(word: u32) -> Result<Event, Refusal>
 pub fn read_input(word: u32) -> Result<Input, Refusal>
     ensures { answer result ≡ input_of word }
 {
-    read_kind(word / KIND, word % KIND)
+    read_kind::<true>(word / KIND, word % KIND)
 }
 
-// The kinds beside the tick: here the numbers of a word become the enum.
+// The same for a word that comes alone, and not in a lesson.
+#[tactic(auto, using(kit::specs::Pick::picks), unfolding(crate::specs::Words::input_of))]
+pub fn read_input_alone(word: u32) -> Result<Input, Refusal>
+    ensures { answer result ≡ input_of word }
+{
+    read_kind::<false>(word / KIND, word % KIND)
+}
+
+// The kinds beside the tick: here the numbers of a word become the enum. `LESSON` says whether a lesson's loop asks, or whoever has one word: each has an
+// instance of its own, since a large function with two callers stays a call, which the loop would pay for at every word.
 #[tactic(auto, using(kit::specs::Pick::picks), unfolding(crate::specs::Words::inputs_of, crate::specs::Words::key_on_of))]
-fn read_kind(kind: u32, body: u32) -> Result<Input, Refusal>
+fn read_kind<const LESSON: bool>(kind: u32, body: u32) -> Result<Input, Refusal>
     ensures { answer result ≡ inputs_of kind body }
 {
     match kind {
